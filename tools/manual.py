@@ -39,8 +39,8 @@ COMMANDS = {
         "journal_run runs LIST as worker_tool does, and prints the journal of the run after the report.", True),
     "journal_check": Command(
         "checks that the journal of a run is legal",
-        "journal_check reads the text of a journal from standard input, and prints `legal actions=A entries=N`, or the first "
-        "fault. It takes no arguments."),
+        "journal_check reads the text of a journal from standard input, with or without the report before it, and prints "
+        "`legal actions=A entries=N`, or the first fault. It takes no arguments."),
     "remote_exec": Command(
         "an executor that runs one job after another",
         "remote_exec reads jobs from standard input and writes the result of each to standard output. worker_tool starts it. "

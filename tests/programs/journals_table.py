@@ -1,5 +1,6 @@
 """Texts of journals, and the verdicts of journal_check. The journals are played by the rules of journal_rules: lanes take turns
-at random, and workers sometimes fail. In other texts one thing is changed."""
+at random, and workers sometimes fail. In other texts one thing is changed. Some have a report before them, and some have a line
+that would take much memory as a tree of values."""
 from __future__ import annotations
 
 import base64
@@ -341,6 +342,124 @@ def too_long() -> Case:
     return Case("too long", check)
 
 
+# ---- a report before the text
+
+COUNTS = b"actions=1 ok=1 failed=0 broken=0 skipped=0\n"
+REPORT = b"a ok local local=won remote=unused\n  | a warning\n  | \n" + COUNTS
+
+
+def reports() -> Iterator[Case]:
+    """Yields texts with a report before them. A bad line is counted from the first line of the report."""
+    text = text_of(ONE_PLAN, ONE)
+    rows = text.splitlines(keepends=True)
+    yes = (0, b"legal actions=1 entries=14\n")
+    lost = text_of(ONE_PLAN, changed_entry(7, put(2, 0, value="Lost")))
+    yield case("a report before it", REPORT + text, *yes)
+    yield case("a short report before it", COUNTS + text, *yes)
+    yield case("the report of no actions", b"actions=0 ok=0 failed=0 broken=0 skipped=0\n[[],[],2]\n", 0, b"legal actions=0 entries=0\n")
+    yield case("a report of large counts", b"actions=4096 ok=12 failed=3000 broken=1084 skipped=0\n" + text, *yes)
+    yield case("a report, and no last line feed", REPORT + text[:-1], *yes)
+    yield case("a report, and a wrong entry", REPORT + lost, 1, b"illegal entry=7\n")
+    yield case("a report, and an unsound plan", REPORT + text_of([ONE_PLAN[0], ONE_PLAN[1], 11], []), 4, b"bad plan\n")
+    yield case("a report, and a bad line", REPORT + b"".join([*rows[:3], b"x\n", *rows[3:]]), 4, b"bad line=8\n")
+    yield case("a report, and no plan", REPORT + b"".join(rows[1:]), 4, b"bad line=5\n")
+    yield case("a report, and an empty line", REPORT + b"\n" + text, 4, b"bad line=5\n")
+
+
+def report_lines() -> Iterator[Case]:
+    """Yields reports some of whose lines look like other lines."""
+    text = text_of(ONE_PLAN, ONE)
+    yes = (0, b"legal actions=1 entries=14\n")
+    for name, line in [
+        ("a text like a last line", b"  | " + COUNTS), ("a text like a plan", b"  | [[],[],2]\n"),
+        ("a name like a plan", b"[[],[],2] ok local local=won remote=unused\n"),
+        ("a name like an entry", b'[0,["Ask"],["Stop"]] broken local=dropped:died:2 remote=unused\n'),
+        ("a name like a last line", b"actions=1 ok local local=won remote=unused\n"),
+        ("a path with a line feed", b"b broken local=dropped:missing(c\nd):2 remote=unused\n"),
+        ("a number", b"12\n"), ("a line that isn't UTF-8", b"  | \xff\n"), ("an empty line", b"\n"),
+    ]:
+        yield case(f"a report with {name}", line + REPORT + text, *yes)
+
+
+def no_reports() -> Iterator[Case]:
+    """Yields texts without a whole report before them: of each the first line is bad, as if no report were read at all."""
+    text = text_of(ONE_PLAN, ONE)
+    rows = text.splitlines(keepends=True)
+    bad = (4, b"bad line=1\n")
+    yield case("a report cut in its first line", REPORT[:10] + b"\n" + text, *bad)
+    yield case("a report cut in a text", REPORT[:40] + b"\n" + text, *bad)
+    yield case("a report without its last line", REPORT[: -len(COUNTS)] + text, *bad)
+    yield case("a report alone without its last line", REPORT[: -len(COUNTS)], *bad)
+    yield case("a report whose last line runs on", REPORT[:-1] + text, *bad)
+    yield case("an entry before the report", rows[1] + REPORT + text, *bad)
+    yield case("an entry inside the report", b"a ok local local=won remote=unused\n" + rows[1] + COUNTS + text, *bad)
+    yield case("a plan inside the report", b"a ok local local=won remote=unused\n" + rows[0] + COUNTS + text, *bad)
+    for end in (len(COUNTS) // 2, len(COUNTS) - 2):
+        yield case(f"a last line cut after {end} bytes", COUNTS[:end] + b"\n" + text, *bad)
+    for name, line in [
+        ("a space at its end", COUNTS[:-1] + b" \n"), ("a carriage return", COUNTS[:-1] + b"\r\n"), ("a space before it", b" " + COUNTS),
+        ("a sign", COUNTS.replace(b"ok=1", b"ok=-1")), ("no number", COUNTS.replace(b"ok=1", b"ok=")),
+        ("a fraction", COUNTS.replace(b"ok=1", b"ok=1.5")), ("its counts in another order", b"ok=1 actions=1 failed=0 broken=0 skipped=0\n"),
+        ("a count too many", COUNTS[:-1] + b" open=0\n"), ("capitals", COUNTS.upper()), ("two spaces", COUNTS.replace(b" ok", b"  ok")),
+    ]:
+        yield case(f"a last line with {name}", line + text, *bad)
+
+
+def not_once() -> Iterator[Case]:
+    """Yields reports and texts one after another. Only what precedes the first text can be a report."""
+    text = text_of(ONE_PLAN, ONE)
+    at = REPORT.count(b"\n")
+    yield case("a report, and nothing after it", REPORT, 4, f"bad line={at + 1}\n".encode())
+    yield case("a short report, and nothing after it", COUNTS[:-1], 4, b"bad line=2\n")
+    yield case("two reports", REPORT + REPORT + text, 4, f"bad line={at + 1}\n".encode())
+    yield case("a report after the text", text + REPORT, 4, b"bad line=16\n")
+    yield case("a report inside the text", text + COUNTS + text, 4, b"bad line=16\n")
+    yield case("two outputs of runs", (REPORT + text) * 2, 4, f"bad line={at + 16}\n".encode())
+
+
+# ---- lines that would take much memory
+
+# Up to how many times its own bytes a line that spells nothing may take.
+MOST_TIMES = 4
+
+LONG = 16 << 20
+
+
+# Starts the second word with an address space of as many KiB as the first one says.
+LIMITED = 'ulimit -v "$1" && exec "$2"'
+
+
+def memory(name: str, begin: bytes, unit: bytes, end: bytes, row: int, line: bytes) -> Case:
+    """Returns a case with a long line, this one of the text. The program gets memory for four times as many bytes."""
+    def check(programs: Programs, folder: pathlib.Path) -> None:
+        path = folder / "text"
+        with path.open("wb") as text:
+            text.write(b"".join([text_of(ONE_PLAN, [])] * (row - 1)) + begin)
+            for _ in range(LONG // (64 * len(unit))):
+                text.write(unit * 64)
+            text.write(end)
+        with path.open("rb") as text:
+            most = MOST_TIMES * path.stat().st_size >> 10
+            ended = run(["sh", "-c", LIMITED, "sh", str(most), programs.journal_check], folder, stdin=text.fileno())
+        compare(name, (4, line, b""), (ended.status, ended.out, ended.err))
+    return Case(f"memory: {name}", check)
+
+
+def long_lines() -> Iterator[Case]:
+    """Yields texts with a long line that spells nothing."""
+    bad = b"bad line=2\n"
+    for name, begin, unit, end in [
+        ("brackets", b"", b"[", b"\n"), ("numbers", b"[0", b",0", b"]\n"), ("empty rows", b"[[]", b",[]", b"]\n"),
+        ("rows of numbers", b"[[0,0]", b",[0,0]", b"]\n"), ("objects", b"[{}", b",{}", b"]\n"), ("keys", b'{"":0', b',"":0', b"}\n"),
+        ("numbers for a call", b'[0,["Ask"', b",0", b'],["Stop"]]\n'), ("numbers for a reply", b'[0,["Ask"],["Stop"', b",0", b"]]\n"),
+        ("numbers for files", b'[0,["Claim",0,["Local"],1,["Files",[0', b",0", b']]],["Granted"]]\n'),
+        ("a long name", b'[0,["', b"Ask", b'"],["Stop"]]\n'), ("escapes", b'[0,["', b"\\n", b'"],["Stop"]]\n'),
+    ]:
+        yield memory(name, begin, unit, end, 2, bad)
+    for name, begin, unit, end in [("numbers for a plan", b"[0", b",0", b"]\n"), ("no text", b"", b"x", b"\n")]:
+        yield memory(name, begin, unit, end, 1, b"bad line=1\n")
+
+
 def words() -> Iterator[Case]:
     def refused(programs: Programs, folder: pathlib.Path) -> None:
         ended = run([programs.journal_check, "x"], folder)
@@ -369,7 +488,7 @@ def words() -> Iterator[Case]:
 
 
 def cases() -> Iterator[Case]:
-    for part in (entries_of_one, lines, spellings, plans, runs, words):
+    for part in (entries_of_one, lines, spellings, plans, runs, reports, report_lines, no_reports, not_once, long_lines, words):
         yield from part()
     for number in range(50):
         yield changed(number)

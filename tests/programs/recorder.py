@@ -26,13 +26,14 @@ MOST_ENTRIES = 1000
 WRONG = 99
 
 
-def fault_in(text: bytes, check: str) -> str | None:
-    """What is wrong with the text of a run's journal, if anything is."""
+def fault_in(report: bytes, text: bytes, check: str) -> str | None:
+    """What is wrong with the text of a run's journal, if anything is. It is checked with the report before it, and without."""
     plan, *entries = [json.loads(line) for line in text.splitlines()]
-    checked = subprocess.run([check], input=text, capture_output=True, check=False)
     legal = f"legal actions={len(plan[0])} entries={len(entries)}\n"
-    if (checked.returncode, checked.stdout) != (0, legal.encode()):
-        return f"journal_check: status {checked.returncode}, {checked.stdout!r}"
+    for given in (text, report + text):
+        checked = subprocess.run([check], input=given, capture_output=True, check=False)
+        if (checked.returncode, checked.stdout) != (0, legal.encode()):
+            return f"journal_check: status {checked.returncode}, {checked.stdout!r}"
     at = first_wrong(plan, entries) if len(entries) <= MOST_ENTRIES else None
     stops = [entry for entry in entries if entry[2] == ["Stop"]]
     lanes = 2 * sum(group[2] for group in plan[1])
@@ -47,7 +48,7 @@ def main() -> int:
     report, text = journal_texts.split(ended.stdout)
     fault = None
     if ended.returncode in (0, 1):
-        fault = fault_in(text, f"{place}/journal_check") if text else "no text"
+        fault = fault_in(report, text, f"{place}/journal_check") if text else "no text"
     elif ended.stdout:
         fault = f"something was put with status {ended.returncode}: {ended.stdout!r}"
     sys.stdout.buffer.write(report if fault is None else fault.encode())

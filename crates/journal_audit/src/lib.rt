@@ -32,9 +32,10 @@ pub fn audit(alloc: Global, bytes: &[u8]) -> Result<Verdict, NoMemory>
     audit_with::<Asked>(alloc, bytes)
 }
 
-/// Reads a text to its end, or until it is too long, and writes a line with the verdict. The status is 0 if the text is
-/// legal, 1 if it isn't, and 4 if it is no journal of a sound plan. It is 3 if memory ran out, 5 if the tap failed, and
-/// 6 if the sink failed.
+/// Reads an input to its end, or until it is too long, and writes a line with the verdict. If it begins with a report, the
+/// verdict is that of the text behind it, and otherwise that of all of it. The status is 0 if the text is legal, 1 if it
+/// isn't, and 4 if it is no journal of a sound plan. It is 3 if memory ran out, 5 if the tap failed, and 6 if the sink
+/// failed.
 pub fn check_stream<T: Tap, O: Sink>(alloc: Global, input: &mut T, out: &mut O) -> u8
     ensures streamed { Streamed Legal (T.told input.old) (T.told input.new)
         (O.told out.old) (O.told out.new) result }

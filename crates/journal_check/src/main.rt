@@ -1,4 +1,5 @@
-//! Reads the text of a run's journal from standard input. Prints `legal actions=A entries=N`, or the first fault.
+//! Reads the text of a run's journal from standard input, with or without the report before it. Prints
+//! `legal actions=A entries=N`, or the first fault.
 #![tactic(auto)]
 
 use journal_audit::check_stream;
@@ -6,10 +7,11 @@ use outside_real::{RealInput, RealSink, open_standard, tell_about};
 use std::env::{self, Env};
 use std::process::ExitCode;
 
-const HELP: &str = "journal_check <journal.jsonl
+const HELP: &str = "journal_run list.json | journal_check
+journal_check <journal.jsonl
 
-Reads the text of a run's journal from standard input, as journal_run puts it behind the report, and says whether the rules of
-scheduling allow it: `legal actions=A entries=N`, or the first fault.
+Reads the text of a run's journal from standard input, with or without the report that journal_run puts before it, and says
+whether the rules of scheduling allow it: `legal actions=A entries=N`, or the first fault.
 
   --help, --version    alone: this text, or the version
 Statuses: 0 legal, 1 not legal, 2 other words, 3 no memory, 4 no journal's text, 5 the input can't be read, 6 the line can't be put.

@@ -4,3 +4,4 @@ pub mod Pieces
 pub mod Taken
 pub mod Once
 pub mod Texts
+pub mod Stages

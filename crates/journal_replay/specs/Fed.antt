@@ -1,10 +1,10 @@
 -- What an auditor knows of a text of which these bytes came so far.
-use Rattle.std.specs.Prelude.{◌≡◌, ℕ, ◌+◌, ◌≤◌, List, ◌++◌, length}
+use Rattle.std.specs.Prelude.{◌≡◌, ℕ, ◌+◌, ◌≤◌, Bool, List, ◌++◌, length}
 use Rattle.journal_text.specs.Lines.{lines_behind, lines_of}
 use Rattle.journal_replay.specs.Legality.{Legality, Standing}
-use Rattle.journal_replay.specs.Knows.{Knows}
-use Rattle.journal_replay.specs.declared.auditor.Found.{Found}
+use Rattle.journal_replay.specs.Staged.{KnowsStage}
 use Rattle.journal_replay.specs.declared.feeding.Auditor.{Auditor}
+use Rattle.journal_replay.specs.declared.front.Stage.{Stage}
 
 -- these lines are whole, and behind them a line has begun so, whatever comes next
 pub record CutAt (bytes : List ℕ) (lines : List (List ℕ)) (begun : List ℕ) : Type 0 where
@@ -12,11 +12,11 @@ pub record CutAt (bytes : List ℕ) (lines : List (List ℕ)) (begun : List ℕ)
   pub cut : (more : List ℕ) → lines_of (bytes ++ more) ≡ lines ++ lines_behind begun more
 
 -- so much is known of the whole lines
-pub record FedSo {C : Type 0} (makes : Legality) (stands : Standing C) (found : Found C) (number : ℕ) (begun bytes : List ℕ) : Type 0 where
+pub record FedSo {C : Type 0} (skips : Bool) (makes : Legality) (stands : Standing C) (stage : Stage C) (number : ℕ) (begun bytes : List ℕ) : Type 0 where
   pub lines : List (List ℕ)
-  pub knows : Knows makes stands found lines
+  pub knows : KnowsStage skips makes stands stage lines
   pub number_is : number ≡ length lines + 1
   pub split : CutAt bytes lines begun
 
-abbrev pub Fed : {C : Type 0} → Legality → Standing C → Auditor C → List ℕ → Type 0
-Fed makes stands a bytes = FedSo makes stands a.found a.number a.begun.items bytes
+abbrev pub Fed : {C : Type 0} → Bool → Legality → Standing C → Auditor C → List ℕ → Type 0
+Fed skips makes stands a bytes = FedSo skips makes stands a.stage a.number a.begun.items bytes

@@ -4,8 +4,10 @@ pub mod Legality
 pub mod Same
 pub mod Spelled
 pub mod Verdicts
+pub mod Fronts
 pub mod Bounds
 pub mod Knows
+pub mod Staged
 pub mod Words
 pub mod Fed
 pub mod Streams

@@ -1,11 +1,12 @@
--- What is left of a text that came through a pipe.
+-- What is left of an input that came through a pipe.
 use Rattle.std.specs.Prelude.{◌≡◌, ℕ, ◌<◌, ◌⊎◌, true, List, [], length, IfSome}
 use Rattle.outside.specs.Lists.{Adds, Gives}
 use Rattle.outside.specs.Told.{SinkTold, TapTold}
 use Rattle.outside.specs.declared.answers.Io.{Io}
 use Rattle.outside.specs.declared.answers.Io.TheVariants as io
 use Rattle.journal_replay.specs.Legality.{Legality}
-use Rattle.journal_replay.specs.Verdicts.{Judges, limit}
+use Rattle.journal_replay.specs.Fronts.{JudgesInput}
+use Rattle.journal_replay.specs.Verdicts.{limit}
 use Rattle.journal_replay.specs.declared.verdict.Verdict.{Verdict}
 use Rattle.journal_replay.specs.Words.{verdict_line, verdict_status}
 
@@ -14,11 +15,12 @@ pub record IsTaken (bytes : List ℕ) (old new : TapTold) : Type 0 where
   pub taken : Adds bytes old.taken new.taken
   pub whole : IfSome new.ended (λ e. e ≡ true) ⊎ (limit < length bytes)
 
--- the bytes that were taken are judged so
+-- Of the bytes that were taken, the text behind the report is judged so, or where they begin with no
+-- report all of them.
 pub record IsRead (makes : Legality) (v : Verdict) (old new : TapTold) : Type 0 where
   pub bytes : List ℕ
   pub taken : IsTaken bytes old new
-  pub judged : Judges makes bytes v
+  pub judged : JudgesInput makes bytes v
 
 -- the line was put and the status is the verdict's, or the sink failed
 abbrev pub EndsWith : Verdict → Io → ℕ → Type 0

@@ -26,7 +26,7 @@ pub fn audit_with<C: Replayed>(alloc: Global, bytes: &[u8]) -> Result<Verdict, N
     if bytes.len() > LIMIT {
         return Ok(Verdict::TooLong);
     }
-    let mut auditor: Auditor<C> = Auditor::new(alloc);
+    let mut auditor: Auditor<C> = Auditor::of_text(alloc);
     auditor.feed(bytes)?;
     auditor.verdict()
 }

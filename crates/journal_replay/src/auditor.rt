@@ -60,7 +60,8 @@ pub(crate) fn with_line<C: Replayed>(
     }
 }
 
-fn first_line<C: Replayed>(alloc: Global, line: &[u8]) -> Result<Found<C>, NoMemory>
+/// Begins with the first line of a text.
+pub(crate) fn first_line<C: Replayed>(alloc: Global, line: &[u8]) -> Result<Found<C>, NoMemory>
     ensures { IfOk result (λ f. Knows C.makes C.stands f (line.now ∷ [])) }
 {
     match read_plan(alloc, line) {
@@ -101,7 +102,19 @@ fn read_again(alloc: Global, line: &[u8]) -> Result<Plan, NoMemory>
     }
 }
 
-fn spells_entry(alloc: Global, line: &[u8]) -> Result<bool, NoMemory>
+/// Returns true if the line spells a plan.
+pub(crate) fn spells_plan(alloc: Global, line: &[u8]) -> Result<bool, NoMemory>
+    ensures { IfOk result (λ b. b ≡ is_some (plan_of line.now)) }
+{
+    match read_plan(alloc, line) {
+        Ok(_) => Ok(true),
+        Err(Misread::Otherwise) => Ok(false),
+        Err(Misread::NoMemory) => Err(NoMemory),
+    }
+}
+
+/// Returns true if the line spells an entry.
+pub(crate) fn spells_entry(alloc: Global, line: &[u8]) -> Result<bool, NoMemory>
     ensures { IfOk result (λ b. b ≡ is_some (entry_of line.now)) }
 {
     match read_entry(alloc, line) {

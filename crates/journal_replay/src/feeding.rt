@@ -1,9 +1,11 @@
-// A text that comes in pieces. Only the unfinished line is kept.
-ghost use Rattle.std.specs.Prelude.{◌≡◌, ◌≤◌, ◌<◌, ◌+◌, ◌++◌, ◌∷◌, ◌^◌, ℕ, List, [], IfOk, OnOk, length};
+// An input that comes in pieces. Only the unfinished line is kept.
+ghost use Rattle.std.specs.Prelude.{◌≡◌, ◌≤◌, ◌<◌, ◌+◌, ◌++◌, ◌∷◌, ◌^◌, ℕ, Bool, true, false, List, [], IfOk, OnOk, length};
 ghost use Rattle.journal_replay.specs.Fed.{Fed, FedSo};
-ghost use Rattle.journal_replay.specs.Verdicts.{Judges};
+ghost use Rattle.journal_text.specs.Lines.{lines_of};
+ghost use Rattle.journal_replay.specs.Staged.{SaysOn};
 
-use crate::auditor::{Found, verdict_of, with_line};
+use crate::auditor::Found;
+use crate::front::{Stage, stage_with, verdict_on};
 use crate::replayed::Replayed;
 use crate::verdict::Verdict;
 use plain_values::NoMemory;
@@ -14,20 +16,35 @@ use std::mem;
 #[derive(Drop)]
 pub(crate) struct Auditor<C: Replayed> {
     alloc: Global,
-    found: Found<C>,
+    stage: Stage<C>,
     // The number of the unfinished line, from 1.
     number: u64,
     begun: Vec<u8>,
 }
 
 impl<C: Replayed> Auditor<C> {
-    /// Returns an auditor that has received nothing.
-    pub(crate) fn new(alloc: Global) -> Auditor<C>
-        ensures { Fed C.makes C.stands result [] }
+    /// Returns an auditor of a text, which has received nothing.
+    pub(crate) fn of_text(alloc: Global) -> Auditor<C>
+        ensures { Fed false C.makes C.stands result [] }
     {
         Auditor {
             alloc,
-            found: Found::Nothing,
+            stage: Stage::Text {
+                skipped: 0,
+                found: Found::Nothing,
+            },
+            number: 1,
+            begun: Vec::new(alloc),
+        }
+    }
+
+    /// Returns an auditor of an input that may begin with a report. It has received nothing.
+    pub(crate) fn of_input(alloc: Global) -> Auditor<C>
+        ensures { Fed true C.makes C.stands result [] }
+    {
+        Auditor {
+            alloc,
+            stage: Stage::Report,
             number: 1,
             begun: Vec::new(alloc),
         }
@@ -35,9 +52,9 @@ impl<C: Replayed> Auditor<C> {
 
     /// Takes the next bytes. After a lack of memory the auditor must not be used.
     pub(crate) fn feed(&mut self, piece: &[u8]) -> Result<(), NoMemory>
-        ensures { (bytes : List ℕ) → Fed C.makes C.stands self.old bytes
+        ensures { (skips : Bool) (bytes : List ℕ) → Fed skips C.makes C.stands self.old bytes
             → length bytes + length piece.now < 2 ^ 63
-            → OnOk result (Fed C.makes C.stands self.new (bytes ++ piece.now)) }
+            → OnOk result (Fed skips C.makes C.stands self.new (bytes ++ piece.now)) }
     {
         let mut start = 0;
         for (at, byte) in piece.iter().enumerate() {
@@ -52,13 +69,14 @@ impl<C: Replayed> Auditor<C> {
 
     // Ends the unfinished line with these bytes. A line feed follows them.
     fn end_line(&mut self, rest: &[u8]) -> Result<(), NoMemory>
-        ensures { (bytes : List ℕ) → FedSo C.makes C.stands self.old.found self.old.number
+        ensures { (skips : Bool) (bytes : List ℕ)
+            → FedSo skips C.makes C.stands self.old.stage self.old.number
             (self.old.begun.items ++ rest.now) bytes → length bytes < 2 ^ 63
-            → OnOk result (Fed C.makes C.stands self.new (bytes ++ 10 ∷ [])) }
+            → OnOk result (Fed skips C.makes C.stands self.new (bytes ++ 10 ∷ [])) }
     {
         self.begun.extend_from_slice(rest)?;
-        let found = mem::replace(&mut self.found, Found::Nothing);
-        self.found = with_line(self.alloc, found, self.number, self.begun.as_slice())?;
+        let stage = mem::replace(&mut self.stage, Stage::Report);
+        self.stage = stage_with(self.alloc, stage, self.number, self.begun.as_slice())?;
         self.number = self.number.saturating_add(1);
         self.begun.clear();
         Ok(())
@@ -66,20 +84,21 @@ impl<C: Replayed> Auditor<C> {
 
     /// Returns the verdict on all bytes so far.
     pub(crate) fn verdict(self) -> Result<Verdict, NoMemory>
-        ensures { (bytes : List ℕ) → Fed C.makes C.stands self bytes
-            → length bytes ≤ 268435456 → IfOk result (Judges C.makes bytes) }
+        ensures { (skips : Bool) (bytes : List ℕ) → Fed skips C.makes C.stands self bytes
+            → length bytes ≤ 268435456
+            → IfOk result (SaysOn skips C.makes (lines_of bytes)) }
     {
         let Auditor {
             alloc,
-            found,
+            stage,
             number,
             begun,
         } = self;
         let line = begun.as_slice();
         if line.is_empty() {
-            return Ok(verdict_of(found));
+            return Ok(verdict_on(stage));
         }
-        let found = with_line(alloc, found, number, line)?;
-        Ok(verdict_of(found))
+        let stage = stage_with(alloc, stage, number, line)?;
+        Ok(verdict_on(stage))
     }
 }

@@ -5,6 +5,7 @@ mod auditing;
 mod auditor;
 mod beyond;
 mod feeding;
+mod front;
 pub mod laws;
 mod replayed;
 mod same;

@@ -1,4 +1,4 @@
-// A text that comes through a pipe, and the line with the verdict on it.
+// An input that comes through a pipe, and the line with the verdict on it.
 ghost use Rattle.std.specs.Prelude.{◌≡◌, ◌≤◌, IfOk, Err, string_bytes};
 ghost use Rattle.outside.specs.Causes.{Counts};
 ghost use Rattle.journal_replay.specs.Streams.{IsPut, IsRead, Streamed};
@@ -36,9 +36,10 @@ impl From<NoMemory> for Broke {
     }
 }
 
-/// Reads a text to its end, or until it is too long, and writes a line with the verdict. Only the unfinished line of it
-/// is kept. The status is 0 if the text is legal, 1 if it isn't, and 4 if it is no journal of a sound plan. It is 3 if
-/// memory ran out, 5 if the tap failed, and 6 if the sink failed.
+/// Reads an input to its end, or until it is too long, and writes a line with the verdict. If it begins with a report, the
+/// verdict is that of the text behind it, and otherwise that of all of it. Only the unfinished line is kept. The status is
+/// 0 if the text is legal, 1 if it isn't, and 4 if it is no journal of a sound plan. It is 3 if memory ran out, 5 if the
+/// tap failed, and 6 if the sink failed.
 pub fn check_stream_with<C: Replayed, T: Tap, O: Sink>(
     alloc: Global,
     input: &mut T,
@@ -66,7 +67,7 @@ fn read_all<C: Replayed, T: Tap>(alloc: Global, input: &mut T) -> Result<Verdict
     ensures count { Counts (T.told input.old).faults (T.told input.new).faults
         (result ≡ Err broke.TapFailed) }
 {
-    let mut auditor: Auditor<C> = Auditor::new(alloc);
+    let mut auditor: Auditor<C> = Auditor::of_input(alloc);
     let mut piece = [0; PIECE];
     let mut taken = 0;
     for _ in 0..MOST_READS {

@@ -17,10 +17,10 @@ loop-at-preserved g c =
           rw (w.self-is, w.start-is)
           record {
             order = order;
-            fed = λ bytes fed few.
-                let known = before.fed bytes fed few in
+            fed = λ skips bytes fed few.
+                let known = before.fed skips bytes fed few in
                 let below : length (bytes ++ take at piece) < 2 ^ 63 = front_fits bytes piece at c.loop-at-test.true few in
-                fed_same makes stands _ _ _ _ _ _ (w.in_ok-end_line.ensures (bytes ++ take at piece) known below)
+                fed_same skips makes stands _ _ _ _ _ _ (w.in_ok-end_line.ensures skips (bytes ++ take at piece) known below)
                 (no_part _ piece (at + 1)) (front_more bytes piece at 10 c.loop-at-test.true w.if-byte-eq10.true);
           }
           )
@@ -28,9 +28,9 @@ loop-at-preserved g c =
           rw (w.self-is, w.start-is)
           record {
             order = omega (arith, before.order);
-            fed = λ bytes fed few.
-                fed_same makes stands c.loop-at.self.found c.loop-at.self.number _ _ _ _
-                (fed_byte makes stands c.loop-at.self.found c.loop-at.self.number _ _ _ (before.fed bytes fed few) w.if-byte-eq10.false)
+            fed = λ skips bytes fed few.
+                fed_same skips makes stands c.loop-at.self.stage c.loop-at.self.number _ _ _ _
+                (fed_byte skips makes stands c.loop-at.self.stage c.loop-at.self.number _ _ _ (before.fed skips bytes fed few) w.if-byte-eq10.false)
                 (part_more c.loop-at.self.begun.items piece start at _ before.order c.loop-at-test.true refl)
                 (front_more bytes piece at _ c.loop-at-test.true refl);
           }
