@@ -1,3 +1,4 @@
 -- What the laws cite.
 pub mod Owed
 pub mod OwnOrders
+pub mod Runnable

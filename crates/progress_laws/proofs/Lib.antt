@@ -20,5 +20,6 @@ pub mod Starved
 pub mod Matches
 pub mod Evicting
 pub mod Shared
+pub mod Moments
 pub mod counts
 pub mod rows

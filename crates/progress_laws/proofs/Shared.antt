@@ -23,7 +23,7 @@ use Rattle.progress_laws.proofs.Leaving.{EndsOrWaits, OverRests, lanes_leave, no
 use Rattle.progress_laws.proofs.Unwanted.{idle_asked}
 use Rattle.progress_laws.specs.Awaits.{AwaitsEnd}
 use Rattle.progress_laws.specs.Rests.{AllLeft}
-use Rattle.progress_laws.specs.Runnable.{EachHasPool}
+use Rattle.shared_rules.specs.Runnable.{EachHasPool}
 use Rattle.progress_laws.specs.Quiet.{AllQuiet}
 use Rattle.progress_laws.specs.Rests.{AllRest}
 use Rattle.progress_laws.specs.Awaits.{Awaits}

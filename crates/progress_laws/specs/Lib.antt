@@ -2,6 +2,6 @@
 pub mod Awaits
 pub mod Rests
 pub mod Quiet
-pub mod Runnable
 pub mod Unwanted
+pub mod Moments
 pub mod Few

@@ -25,9 +25,11 @@ ghost use Rattle.shared_rules.specs.Shared.{shared_discipline};
 ghost use Rattle.delay_rules.specs.Delayed.{delayed_discipline, delayed_seats, has_waited};
 ghost use Rattle.progress_laws.specs.Awaits.{Awaits, AwaitsEnd, Owes};
 ghost use Rattle.progress_laws.specs.Few.{AllWithin, CallsAreFew, CallsAreFewButTicks, DelayedCallsAreFew};
+ghost use Rattle.progress_laws.specs.Moments.{NeverStuck};
 ghost use Rattle.progress_laws.specs.Quiet.{AllQuiet, IsFree, NoneOwes};
 ghost use Rattle.progress_laws.specs.Rests.{AllLeft, AllRest};
-ghost use Rattle.progress_laws.specs.Runnable.{EachHasBerth, EachHasPool};
+ghost use Rattle.history_laws.specs.Runnable.{EachHasBerth};
+ghost use Rattle.shared_rules.specs.Runnable.{EachHasPool};
 ghost use Rattle.progress_laws.specs.Unwanted.{UnwantedAreAsked};
 
 /// In any lawful journal, if both lanes of a berth rest, the process of its last line owes
@@ -118,6 +120,17 @@ pub fn runs_end_or_wait()
     ensures shared { (s : SharedPlan) (j : List Entry) → Sound s.plan → EachHasPool s
         → LegalBy (shared_discipline s) j → AllRest (shared_discipline s) (2 * seats s) j
         → AllLeft (2 * seats s) j ⊎ ((l : ℕ) × Owes j l) }
+{}
+
+/// The same at each moment of a run, as its journal has it in the end.
+pub fn no_moment_is_stuck()
+    ensures own { (p : Plan) (j : List Entry) → Sound p → EachHasBerth p
+        → LegalBy (own_discipline p) j → NeverStuck (own_discipline p) (2 * berths p) j }
+    ensures delayed { (p : Plan) (n : ℕ) (j : List Entry) → Sound p → EachHasBerth p
+        → LegalBy (delayed_discipline p n) j
+        → NeverStuck (delayed_discipline p n) (2 * berths p + 1) j }
+    ensures shared { (s : SharedPlan) (j : List Entry) → Sound s.plan → EachHasPool s
+        → LegalBy (shared_discipline s) j → NeverStuck (shared_discipline s) (2 * seats s) j }
 {}
 
 /// A run doesn't wait for an answer that nobody wants, if it can ask for its end: if every lane

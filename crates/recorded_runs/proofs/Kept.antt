@@ -12,7 +12,7 @@ use Rattle.run_tasks.specs.Course.{Course, Made}
 use Rattle.run_tasks.specs.declared.task.Task.{Task}
 use Rattle.tool_words.specs.declared.options.Options.{Options}
 use Rattle.worker_run.specs.Ends.{HasCourse, HasLed, IsLate, LeadsTo, LeavesNew, TellsTask, UnlessEarly, is_halted}
-use Rattle.worker_run.specs.Headline.{AreRulesOf, HasOuts, HasPipes, HasRace, HasRooms, HasUnsaid, IsAccounted, IsComplete, IsKept, IsLegal, IsOwnLegal, IsPaired, IsSound, IsStopped, OnRun, RunKeeps, TaskKeeps, UnlessRun, own_kept, own_rules}
+use Rattle.worker_run.specs.Headline.{AreRulesOf, HasOuts, HasPipes, HasRace, HasRooms, HasUnsaid, IsAccounted, IsComplete, IsFew, IsKept, IsLegal, IsNeverStuck, IsOwnLegal, IsPaired, IsSound, IsStopped, OnRun, RunKeeps, TaskKeeps, UnlessRun, own_kept, own_lanes, own_rules}
 use Rattle.worker_run.specs.Histories.{history_of}
 use Rattle.worker_run.specs.Seen.{EndedTold, Left}
 
@@ -125,4 +125,6 @@ module _ (options : Option Options) (before : FloorTold) (end next : EndedTold) 
         late (course_before all.course));
     task = task_late;
     legal = on IsOwnLegal all.legal;
+    awaited = on (IsNeverStuck own_rules own_lanes) all.awaited;
+    few = on IsFew all.few;
   }

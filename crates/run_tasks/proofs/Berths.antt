@@ -86,7 +86,7 @@ share_some counts (suc n) few =
     as (λ b. 1 ≤ cond b (suc (suc n)) (share counts (suc n)))
     [ true ↦ omega arith | false ↦ share_some counts n few ]
 
-shares : (counts : List ℕ) (n : ℕ) → 1 ≤ n → length counts ≤ 48 → 1 ≤ share counts n
+pub shares : (counts : List ℕ) (n : ℕ) → 1 ≤ n → length counts ≤ 48 → 1 ≤ share counts n
 shares counts zero some few = absurd (omega (arith, some))
 shares counts (suc n) some few = share_some counts n few
 
@@ -108,7 +108,7 @@ keys_go_on key keys (x ∷ xs) =
     [ true ↦ added | false ↦ keys_go_on key keys xs ]
 
 -- what its number of berths is
-berths_by : (o : Option ListAction) (n : ℕ) → (group_by o n).berths ≡ n
+pub berths_by : (o : Option ListAction) (n : ℕ) → (group_by o n).berths ≡ n
 berths_by None n = refl
 berths_by (Some x) n = refl
 
@@ -205,39 +205,53 @@ has_berths o (x ∷ rest) limits few none =
 
 -- ---- what was read
 
-module _ (o : Options) (limits : AreInLimits o) (made : Task × Plan) where
-  by_bytes : (short : Bool) (bytes : List ℕ) (due : Result ActionList ListFault)
-      (reads : List FloorRead) → list_of 48 bytes ≡ due
-      → BytesRead (TaskRead o short) due reads (Ok made) → HasBerths made.0.plan
-  by_bytes short bytes (Ok list) reads is then =
-      subst HasBerths (sym then.1.plan)
-      (has_berths o list.actions limits (few_keys bytes list is))
-  by_bytes short bytes (Err f) reads is ends = absurd (let e = ends.1 in cc)
+-- what holds of the plan of each list with so few keys
+module _ (o : Options) (P : Plan → Type 0)
+    (holds : (xs : List ListAction) → length (keys_of xs) ≤ 48 → P (plan_by o xs)) where
+  module _ (made : Task × Plan) where
+    by_bytes : (short : Bool) (bytes : List ℕ) (due : Result ActionList ListFault)
+        (reads : List FloorRead) → list_of 48 bytes ≡ due
+        → BytesRead (TaskRead o short) due reads (Ok made) → P made.0.plan
+    by_bytes short bytes (Ok list) reads is then =
+        subst P (sym then.1.plan) (holds list.actions (few_keys bytes list is))
+    by_bytes short bytes (Err f) reads is ends = absurd (let e = ends.1 in cc)
 
-  by_answer : (path : List ℕ) (answer : Read) (reads : List FloorRead)
-      → AfterList (TaskRead o false) most_local_berths path answer reads (Ok made)
-      → HasBerths made.0.plan
-  by_answer path read.Absent reads ends = absurd (let e = ends.1 in cc)
-  by_answer path read.Failed reads ends = absurd (let e = ends.1 in cc)
-  by_answer path (read.Found bytes) reads then =
-      by_bytes false bytes (list_of 48 bytes) reads refl then
+    by_answer : (path : List ℕ) (answer : Read) (reads : List FloorRead)
+        → AfterList (TaskRead o false) most_local_berths path answer reads (Ok made)
+        → P made.0.plan
+    by_answer path read.Absent reads ends = absurd (let e = ends.1 in cc)
+    by_answer path read.Failed reads ends = absurd (let e = ends.1 in cc)
+    by_answer path (read.Found bytes) reads then =
+        by_bytes false bytes (list_of 48 bytes) reads refl then
 
-  by_list : (path : List ℕ) (reads : List FloorRead) → ListRead o path reads (Ok made)
-      → HasBerths made.0.plan
-  by_list path [] none = absurd none
-  by_list path (first ∷ rest) then = by_answer path first.answer rest then.1
+    by_list : (path : List ℕ) (reads : List FloorRead) → ListRead o path reads (Ok made)
+        → P made.0.plan
+    by_list path [] none = absurd none
+    by_list path (first ∷ rest) then = by_answer path first.answer rest then.1
+
+  -- holds of a task's plan, where its list was read at a path
+  pub list_plan : (old new : FloorTold) (path : List ℕ) (result : Made)
+      → Leads old new result (ListRead o path) → IfOk result (λ made. P made.0.plan)
+  list_plan old new path (Ok made) l = by_list made path l.0 l.3
+  list_plan old new path (Err f) l = tt
+
+  -- and where it was generated
+  pub generated_plan : (old new : FloorTold) (actions : ℕ) (result : Made)
+      → Leads old new result (GeneratedRead o actions) → IfOk result (λ made. P made.0.plan)
+  generated_plan old new actions (Ok made) l =
+      by_bytes made true (generated_text actions) _ l.0 refl l.3
+  generated_plan old new actions (Err f) l = tt
 
 -- a task has berths for its actions, where its list was read at a path
 pub list_has_berths : (o : Options) (old new : FloorTold) (path : List ℕ) (result : Made)
     → AreInLimits o → Leads old new result (ListRead o path)
     → IfOk result (λ made. HasBerths made.0.plan)
-list_has_berths o old new path (Ok made) limits l = by_list o limits made path l.0 l.3
-list_has_berths o old new path (Err f) limits l = tt
+list_has_berths o old new path result limits l =
+    list_plan o HasBerths (λ xs few. has_berths o xs limits few) old new path result l
 
 -- and where it was generated
 pub generated_has_berths : (o : Options) (old new : FloorTold) (actions : ℕ) (result : Made)
     → AreInLimits o → Leads old new result (GeneratedRead o actions)
     → IfOk result (λ made. HasBerths made.0.plan)
-generated_has_berths o old new actions (Ok made) limits l =
-    by_bytes o limits made true (generated_text actions) _ l.0 refl l.3
-generated_has_berths o old new actions (Err f) limits l = tt
+generated_has_berths o old new actions result limits l =
+    generated_plan o HasBerths (λ xs few. has_berths o xs limits few) old new actions result l

@@ -3,6 +3,7 @@ ghost use Rattle.std.specs.Prelude.{◌≡◌, IfOk, map, string_bytes};
 ghost use Rattle.action_list.specs.Lists.{list_of};
 ghost use Rattle.list_actions.specs.Whole.{IsWhole};
 ghost use Rattle.generated_list.specs.Generated.{generated_text};
+ghost use Rattle.history_laws.specs.Runnable.{EachHasBerth};
 ghost use Rattle.outside.specs.Causes.{Counts};
 ghost use Rattle.outside.specs.Told.{SameFloor};
 ghost use Rattle.run_loading.specs.Reads.{IsFloorFailed, Leads, end_of};
@@ -41,6 +42,7 @@ pub fn read_task<F: Floor>(
         (Course (options_of (map string_bytes words.now))) }
     ensures sound { IfOk result HasSoundPlans }
     ensures berths { IfOk result (λ made. HasBerths made.0.plan) }
+    ensures runnable { IfOk result (λ made. EachHasBerth made.0.plan) }
     ensures work { IfOk result (λ made. HasWork made.0) }
     ensures settings { IfOk result (λ made. HasSettings made.0) }
     ensures floor { Counts (F.told floor.old).faults (F.told floor.new).faults
@@ -63,6 +65,7 @@ fn read_by_options<F: Floor>(
         (OptionsRead options.now options.now.list options.now.generate) }
     ensures sound { IfOk result HasSoundPlans }
     ensures berths { IfOk result (λ made. HasBerths made.0.plan) }
+    ensures runnable { IfOk result (λ made. EachHasBerth made.0.plan) }
     ensures work { IfOk result (λ made. HasWork made.0) }
     ensures settings { IfOk result (λ made. HasSettings made.0) }
     ensures floor { Counts (F.told floor.old).faults (F.told floor.new).faults

@@ -4,3 +4,4 @@ pub mod Needs
 pub mod Shared
 pub mod Kept
 pub mod Evicted
+pub mod Runnable

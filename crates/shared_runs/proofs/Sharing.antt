@@ -1,5 +1,5 @@
 -- The core of a task goes by the rules of its pools, and the task fits its lanes.
-use Rattle.std.proofs.Common.{◌≡◌, ◌∙◌, ℕ, Bool, true, false, cond, length, List, [], Some, arith, ap, refl, subst, sym}
+use Rattle.std.proofs.Common.{◌≡◌, ◌∙◌, ◌*◌, ℕ, Bool, true, false, cond, length, List, [], Some, arith, ap, refl, subst, sym}
 use Rattle.std.specs.Prelude.{slice_get}
 use Rattle.core_contract.specs.Discipline.{Discipline}
 use Rattle.outside.specs.Told.{FloorTold}
@@ -14,17 +14,21 @@ use Rattle.shared_berths.specs.Laws.{basis_is}
 use Rattle.shared_berths.specs.Stands.{StandsBy, shared_by}
 use Rattle.shared_histories.proofs.Usable.{usable_is}
 use Rattle.shared_rules.specs.Kept.{SharedKept}
+use Rattle.shared_rules.specs.Runnable.{EachHasPool}
 use Rattle.shared_rules.specs.declared.pools.SharedPlan.{SharedPlan}
-use Rattle.shared_rules.specs.Pools.{SoundPools, is_remote_berth, usable}
+use Rattle.shared_rules.specs.Pools.{SoundPools, is_remote_berth, seats, usable}
 use Rattle.shared_rules.specs.Shared.{shared_discipline}
 use Rattle.shared_tasks.specs.declared.reading.SharedTask.{SharedTask}
 use Rattle.shared_tasks.specs.Tasks.{MayBeShared}
 use Rattle.shared_runs.specs.Headline as headline
-use Rattle.shared_runs.specs.Headline.{Sharing, shared_kept, shared_rules}
+use Rattle.shared_runs.specs.Headline.{IsFewShared, Sharing, shared_kept, shared_lanes, shared_rules}
 use Rattle.spawn_core.specs.Stands.{KeptBy, StandsIn}
-use Rattle.worker_run.proofs.Keeping.{keeps_for}
+use Rattle.progress_laws.proofs.Moments.{never_stuck}
+use Rattle.progress_laws.proofs.Shared.{ends_or_waits}
+use Rattle.progress_laws.proofs.counts.Disciplines.{shared_few}
+use Rattle.worker_run.proofs.Keeping.{keeps_for, on_task}
 use Rattle.worker_run.specs.Ends.{IsEndOf}
-use Rattle.worker_run.specs.Headline.{TaskKeeps}
+use Rattle.worker_run.specs.Headline.{IsLegal, IsNeverStuck, OnRun, TaskKeeps, newest_first}
 use Rattle.worker_run.specs.Lanes.{FitsLanes}
 use Rattle.worker_run.specs.Seen.{EndedTold}
 
@@ -92,3 +96,22 @@ module _ (made : SharedTask) (may : MayBeShared made) where
       made.task before end of (subst (λ (s : SharedPlan).
       TaskKeeps (λ t. shared_discipline s) (λ t. SharedKept s) before end)
       (is ∙ sym same_plan) k)
+
+  -- it never waits for itself, and its journal has few entries
+  module _ (end : EndedTold) (of : IsEndOf made.task end.fault end.task)
+      (legal : OnRun end (IsLegal (shared_rules (sharing_of made.shared)))) where
+    abbrev pools_of_task : SharedPlan
+    pools_of_task = headline.shared_by (sharing_of made.shared) made.task.plan
+
+    pub shared_awaited : OnRun end (IsNeverStuck (shared_rules (sharing_of made.shared))
+        (shared_lanes (sharing_of made.shared)))
+    shared_awaited = on_task made.task end of (IsLegal (shared_rules (sharing_of made.shared)))
+        (IsNeverStuck (shared_rules (sharing_of made.shared)) (shared_lanes (sharing_of made.shared)))
+        (λ is. never_stuck (shared_discipline pools_of_task) (2 * seats pools_of_task)
+        (λ j legal rest. ends_or_waits pools_of_task j may.sound
+        (subst EachHasPool (sym same_plan) may.runnable) legal rest) (newest_first end.left) is) legal
+
+    pub shared_calls_few : OnRun end (IsFewShared (sharing_of made.shared))
+    shared_calls_few = on_task made.task end of (IsLegal (shared_rules (sharing_of made.shared)))
+        (IsFewShared (sharing_of made.shared))
+        (λ is. shared_few pools_of_task (newest_first end.left) may.sound is) legal

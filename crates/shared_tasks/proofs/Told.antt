@@ -30,6 +30,7 @@ use Rattle.run_tasks.proofs.Works.{all_work}
 use Rattle.run_tasks.specs.declared.task.Task.{Task}
 use Rattle.shared_rules.specs.declared.pools.SharedPlan.{SharedPlan}
 use Rattle.shared_rules.specs.Pools.{SoundPools, is_of_executor, seats}
+use Rattle.shared_rules.specs.Runnable.{EachHasPool}
 use Rattle.shared_tasks.specs.declared.words.SharedOptions.{SharedOptions}
 use Rattle.shared_tasks.specs.declared.reading.SharedTask.{SharedTask}
 use Rattle.shared_tasks.specs.Words.{AreShared}
@@ -37,6 +38,7 @@ use Rattle.shared_tasks.specs.Tasks.{IsSharedTask, MayBeShared, SpeechesFit, bar
 use Rattle.shared_tasks.specs.Pools.{is_same, speaking_from}
 use Rattle.shared_tasks.proofs.Bare.{executors, none_remote, sound_bare}
 use Rattle.shared_tasks.proofs.Pooled.{AreParts, ArePartsPools, as_many_speeches, no_groups, none_pass, sound_pools, speeches_fit}
+use Rattle.shared_tasks.proofs.Runnable.{each_has_pool}
 
 module _ (o : SharedOptions) (limits : AreShared o) (xs : List ListAction) (whole : IsWhole xs) where
   abbrev q : SharedPlan
@@ -161,6 +163,8 @@ module _ (o : SharedOptions) (limits : AreShared o) (xs : List ListAction) (whol
       sound = subst Sound (sym of_list.plan) sound_own;
       pools = subst SoundPools (sym of_list.shared)
           (sound_pools q parts o.workers (executors_by o xs) pools_are);
+      runnable = subst EachHasPool (sym of_list.shared) (each_has_pool q parts o.workers
+          (executors_by o xs) pools_are sound_own limits.options.instances.0);
       commanded = ap length of_list.commands
           ∙ (commands_law q.plan parts many).0 ∙ sym (ap (λ (p : Plan). length p.groups) of_list.plan);
       as_many = ap length of_list.speeches

@@ -16,6 +16,7 @@ use Rattle.proxy_deeds.specs.Settings.{speaks_remote}
 use Rattle.shared_rules.specs.declared.pools.SharedPlan.{SharedPlan}
 use Rattle.shared_rules.specs.declared.pools.SharedPool.{SharedPool}
 use Rattle.shared_rules.specs.Pools.{SoundPools, is_remote_berth, seats}
+use Rattle.shared_rules.specs.Runnable.{EachHasPool}
 use Rattle.shared_tasks.specs.declared.words.SharedOptions.{SharedOptions}
 use Rattle.shared_tasks.specs.declared.reading.SharedTask.{SharedTask}
 use Rattle.shared_tasks.specs.Pools.{pools_in, speeches_in, spoken_pools}
@@ -69,12 +70,14 @@ SpeechesFit shared speeches =
     → speaks_remote s ≡ is_remote_berth shared w
 
 -- What a run of it by a core of shared berths asks: both plans are the same and sound, and so are the
--- pools; there is a command for each group, a speech for each berth, which fits it, and the work of
--- each action; and without berths there are no actions.
+-- pools; each group that a branch names stands in a pool with a berth, and may hold a line there;
+-- there is a command for each group, a speech for each berth, which fits it, and the work of each
+-- action; and without berths there are no actions.
 pub record MayBeShared (made : SharedTask) : Type 0 where
   pub plan : made.shared.plan ≡ made.task.plan
   pub sound : Sound made.task.plan
   pub pools : SoundPools made.shared
+  pub runnable : EachHasPool made.shared
   pub commanded : length made.task.commands.items ≡ length made.task.plan.groups
   pub as_many : length made.task.speeches.items ≡ seats made.shared
   pub speeches : SpeechesFit made.shared made.task.speeches.items

@@ -1,16 +1,18 @@
 -- What is said of a run by strategies.
-use Rattle.std.specs.Prelude.{◌≡◌, ℕ, zero, suc, IfOk, List, Option, Some, None, Result, Ok, Err}
+use Rattle.std.specs.Prelude.{◌≡◌, ◌*◌, ◌+◌, ℕ, zero, suc, IfOk, List, Option, Some, None, Result, Ok, Err}
 use Rattle.build_report.specs.declared.fault.RunFault.{RunFault}
 use Rattle.core_contract.specs.Discipline.{Discipline}
 use Rattle.core_contract.specs.Disciplines.{own_discipline}
 use Rattle.delay_rules.specs.Bounds.{DelayedKept}
-use Rattle.delay_rules.specs.Delayed.{delayed_discipline}
+use Rattle.delay_rules.specs.Delayed.{delayed_discipline, delayed_seats}
 use Rattle.exec_journal.specs.Entry.{Entry}
 use Rattle.exec_journal.specs.Kept.{Kept}
 use Rattle.outside.specs.Causes.{Counts}
 use Rattle.outside.specs.Told.{FloorTold, SameFloor}
 use Rattle.outside.specs.declared.floor.FloorRead.{FloorRead}
 use Rattle.run_loading.specs.Reads.{Reads}
+use Rattle.progress_laws.specs.Few.{CallsAreFew, DelayedCallsAreFew}
+use Rattle.run_plan.specs.Groups.{berths}
 use Rattle.run_plan.specs.declared.plan.Plan.{Plan}
 use Rattle.run_tasks.specs.declared.task.Task.{Task}
 use Rattle.spawn_strategies.specs.declared.types.SpawnOptions.{SpawnOptions}
@@ -19,9 +21,9 @@ use Rattle.spawn_tasks.specs.declared.faults.NoSpawn.{NoSpawn}
 use Rattle.spawn_tasks.specs.declared.faults.NoSpawn.TheVariants as no
 use Rattle.spawn_tasks.specs.declared.tasks.SpawnTask.{SpawnTask}
 use Rattle.worker_run.specs.Ends.{HasCourseBy}
-use Rattle.worker_run.specs.Headline.{TaskKeeps}
+use Rattle.worker_run.specs.Headline.{IsNeverStuck, OnRun, TaskKeeps, newest_first}
 use Rattle.worker_run.specs.Pacing.{PacesRun}
-use Rattle.worker_run.specs.Seen.{EndedTold, nothing_left}
+use Rattle.worker_run.specs.Seen.{EndedTold, Left, nothing_left}
 
 -- ---- by whose rule
 
@@ -43,6 +45,23 @@ spawn_rules delay t = discipline_by delay t.plan
 
 abbrev pub spawn_kept : ℕ → Task → List Entry → Type 0
 spawn_kept delay t = kept_by delay t.plan
+
+-- ---- progress
+
+-- the proxy lane and the tap lane of each berth of the plan, and with a delay the lane of Ticks
+abbrev pub spawn_lanes : ℕ → Task → ℕ
+spawn_lanes zero t = 2 * berths t.plan
+spawn_lanes (suc n) t = 2 * berths t.plan + 1
+
+-- beside noise, the journal has at most twelve entries for each attempt that the plan allows, one
+-- for each action and for each lane, and with a delay its Ticks for each action that uses both
+-- branches
+abbrev pub few_by : ℕ → Plan → List Entry → Type 0
+few_by zero p j = CallsAreFew p (2 * berths p) j
+few_by (suc n) p j = DelayedCallsAreFew p (suc n) (2 * delayed_seats p) j
+
+abbrev pub IsFewSpawned : ℕ → Task → Left → Type 0
+IsFewSpawned delay t x = few_by delay t.plan (newest_first x)
 
 -- ---- what was read
 
@@ -73,6 +92,8 @@ pub record SpawnKeeps {W : Type 0} (options : Option SpawnOptions) (before : Flo
   pub course : HasCourseBy (SpawnRead delay options) (λ made. made.task) before end
   -- by the rules of this delay
   pub task : TaskKeeps (spawn_rules delay) (spawn_kept delay) before end
+  pub awaited : OnRun end (IsNeverStuck (spawn_rules delay) (spawn_lanes delay))
+  pub few : OnRun end (IsFewSpawned delay)
   pub paces : SpawnPaces told delay pacer after end
 
 -- No strategy supports this action, which is the first such. The list was read with its work; no

@@ -4,4 +4,5 @@ pub mod Berthed
 pub mod Worked
 pub mod Told
 pub mod Sandboxes
+pub mod Runnable
 mod Rows

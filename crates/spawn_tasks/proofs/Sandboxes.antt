@@ -137,7 +137,7 @@ module _ (f : ListAction → Name) where
   abbrev own : ListAction → ListAction
   own x = with_name (f x) x
 
-  branches : (keys : List (List ℕ)) (before xs : List ListAction) (a : ℕ) (n : Name)
+  pub branches : (keys : List (List ℕ)) (before xs : List ListAction) (a : ℕ) (n : Name)
       (y : PlanAction) → slice_get (map f xs) a ≡ Some n
       → slice_get (plan_actions keys before (map own xs)) a ≡ Some y → Branches (length keys) n y
   branches keys before [] a n y named at = absurd (cc)
@@ -152,7 +152,7 @@ module _ (f : ListAction → Name) where
   branches keys before (x ∷ xs) (suc a) n y named at =
       branches keys (before ++ own x ∷ []) xs a n y named at
 
-placed_at : (sandbox executor : ℕ) (ns : List Name) (ys : List PlanAction) (a : ℕ) (n : Name)
+pub placed_at : (sandbox executor : ℕ) (ns : List Name) (ys : List PlanAction) (a : ℕ) (n : Name)
     (y : PlanAction) → slice_get ns a ≡ Some n
     → slice_get (all_placed sandbox executor ns ys) a ≡ Some y
     → (z : PlanAction) × (slice_get ys a ≡ Some z) × (placed sandbox executor n z ≡ y)

@@ -2,6 +2,7 @@
 use Rattle.std.proofs.Common.{◌≡◌, ℕ, ◌≤◌, List, [], ◌∷◌, length, map, Option, None, Result, Ok, Err, IfOk, refl, sym, ap, subst, ◌∙◌}
 use Rattle.action_list.specs.Lists.{list_of}
 use Rattle.build_report.specs.declared.fault.RunFault.TheVariants as fault
+use Rattle.history_laws.specs.Runnable.{EachHasBerth}
 use Rattle.list_actions.specs.declared.faults.ListFault.{ListFault}
 use Rattle.list_actions.specs.declared.types.ActionList.{ActionList}
 use Rattle.list_actions.specs.Made.{maker_of}
@@ -32,6 +33,7 @@ use Rattle.spawn_tasks.specs.Course.{ChoiceLeads, ListLeads, Made, PlanLeads, Sp
 use Rattle.spawn_tasks.specs.Tasks.{IsSpawnTask, MayBeSpawned, choice_by, parts_by}
 use Rattle.spawn_tasks.proofs.Berthed.{has_berths}
 use Rattle.spawn_tasks.proofs.Placing.{are_parts, fits}
+use Rattle.spawn_tasks.proofs.Runnable.{each_has_berth}
 use Rattle.spawn_tasks.proofs.Worked.{works}
 
 -- ---- a list with its work
@@ -95,6 +97,7 @@ module _ (o : SpawnOptions) (limits : AreSpawnLimits o) (list : ActionList)
         sound = subst Sound same (sound p chosen);
         twin = is.twin ∙ same;
         berths = subst HasBerths same (has_berths o list.actions p limits chosen);
+        runnable = subst EachHasBerth same (each_has_berth o list.actions p limits chosen);
         work = subst (λ (q : Plan). IsWorkOf q made.task.work.actions)
             same (works o list.actions whole loaded.files work.actions loaded.loaded p
             made.task.work.actions chosen h.1);

@@ -3,6 +3,7 @@ use Rattle.std.specs.Prelude.{◌≡◌, ◌≤◌, ℕ, false, if◌then◌else
 use Rattle.std.specs.List.{list_any}
 use Rattle.action_list.specs.declared.parts.GroupPart.{GroupPart}
 use Rattle.action_list.specs.Parts.{executor_part, parts_of}
+use Rattle.history_laws.specs.Runnable.{EachHasBerth}
 use Rattle.list_actions.specs.declared.types.ListAction.{ListAction}
 use Rattle.run_plan.specs.declared.plan.Group.{Group}
 use Rattle.run_plan.specs.declared.plan.Plan.{Plan}
@@ -50,12 +51,13 @@ pub record IsSpawnTask (o : SpawnOptions) (xs : List ListAction) (p : Plan) (mad
   pub delay : made.delay ≡ o.local_delay
 
 -- What a run of it asks: the plan is sound, and the same twice; without berths there are no
--- actions; each action has its work, each group its command, each berth a speech that fits it; and
--- the delay is at most 9,999 milliseconds.
+-- actions; each group that a branch names has a berth; each action has its work, each group its
+-- command, each berth a speech that fits it; and the delay is at most 9,999 milliseconds.
 pub record MayBeSpawned (made : SpawnTask) : Type 0 where
   pub sound : Sound made.task.plan
   pub twin : made.twin ≡ made.task.plan
   pub berths : HasBerths made.task.plan
+  pub runnable : EachHasBerth made.task.plan
   pub work : HasWork made.task
   pub settings : HasSettings made.task
   pub delay : made.delay ≤ 9999

@@ -25,7 +25,7 @@ use Rattle.worker_run.specs.Seen.{EndedTold, Left, ended_told, nothing_left}
 -- what is said of the task that was run is said of the run
 module _ (t : Task) (end : EndedTold) (of : IsEndOf t end.fault end.task) (P Q : Task → Left → Type 0)
     (so : P t end.left → Q t end.left) where
-  on_task : OnRun end P → OnRun end Q
+  pub on_task : OnRun end P → OnRun end Q
   on_task p = by end.fault end.task of p
     where
       there : (o : Option Task) → o ≡ Some t → IfSome o (λ t. P t end.left)

@@ -1,6 +1,7 @@
 pub mod Fits
 pub mod Histories
 pub mod Keeping
+pub mod Progressing
 pub mod Made
 pub mod Numbered
 pub mod Putting

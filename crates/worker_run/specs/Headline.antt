@@ -1,6 +1,6 @@
 -- What is said of a run that is told. Each is said of the task that was run and of what is left of
 -- it, and all of them of the one history that its journal is.
-use Rattle.std.specs.Prelude.{◌≡◌, true, false, ℕ, List, [], length, reverse, slice_get, Option, Some, None, IfSome}
+use Rattle.std.specs.Prelude.{◌≡◌, ◌*◌, true, false, ℕ, List, [], length, reverse, slice_get, Option, Some, None, IfSome}
 use Rattle.std.specs.List.{list_all}
 use Rattle.build_report.specs.Report.{is_success}
 use Rattle.exec_journal.specs.Clean.{Clean}
@@ -21,6 +21,9 @@ use Rattle.lane_runs.specs.Runs.{Outs, Pipes, Rooms, Stops}
 use Rattle.outside.specs.Causes.{Counts}
 use Rattle.outside.specs.Told.{BerthTold, FloorTold, SameFiles}
 use Rattle.run_loading.specs.Reads.{IsFloorFailed}
+use Rattle.progress_laws.specs.Few.{CallsAreFew}
+use Rattle.progress_laws.specs.Moments.{NeverStuck}
+use Rattle.run_plan.specs.Groups.{berths}
 use Rattle.run_plan.specs.Sound.{Sound}
 use Rattle.run_tasks.specs.declared.task.Task.{Task}
 use Rattle.core_contract.specs.Duties.{proxy_lane}
@@ -119,6 +122,22 @@ abbrev pub Succeeds : EndedTold → Type 0
 Succeeds end = end.fault ≡ None → (t : Task) × (end.task ≡ Some t)
     × (Clean (newest_first end.left) → IsSuccess t end)
 
+-- ---- progress
+
+-- At no moment did all of these lanes rest, unless all had left, or some process owed an answer or
+-- its end.
+abbrev pub IsNeverStuck : (Task → Discipline) → (Task → ℕ) → Task → Left → Type 0
+IsNeverStuck rules lanes t x = NeverStuck (rules t) (lanes t) (newest_first x)
+
+-- the proxy lane and the tap lane of each berth of the plan
+abbrev pub own_lanes : Task → ℕ
+own_lanes t = 2 * berths t.plan
+
+-- beside noise, the journal has at most twelve entries for each attempt that the plan allows, one
+-- for each action, and one for each lane
+abbrev pub IsFew : Task → Left → Type 0
+IsFew t x = CallsAreFew t.plan (own_lanes t) (newest_first x)
+
 -- ---- the objects
 
 -- the bytes at each line's pipes are those that the journal says
@@ -197,3 +216,5 @@ pub record RunKeeps (options : Option Options) (before : FloorTold) (end : Ended
   -- by the rules of berths that the plan's groups have of their own
   pub task : TaskKeeps own_rules own_kept before end
   pub legal : OnRun end IsOwnLegal
+  pub awaited : OnRun end (IsNeverStuck own_rules own_lanes)
+  pub few : OnRun end IsFew

@@ -16,7 +16,7 @@ use Rattle.shared_rules.specs.Needs.{all_lines, has_match_waiting, is_starved, m
 use Rattle.shared_rules.proofs.Rows.{one_pool, second}
 use Rattle.progress_laws.specs.Awaits.{Awaits}
 use Rattle.progress_laws.specs.Rests.{AllRest, Hears, Idles}
-use Rattle.progress_laws.specs.Runnable.{EachHasPool, HasPool}
+use Rattle.shared_rules.specs.Runnable.{EachHasPool, HasPool}
 use Rattle.progress_laws.proofs.Options.{some_same}
 use Rattle.progress_laws.proofs.Shared.{never_stuck}
 use Rattle.progress_laws.proofs.rows.OwnBerths.{asked_5}

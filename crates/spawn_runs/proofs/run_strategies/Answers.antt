@@ -10,6 +10,7 @@ use Rattle.build_report.specs.declared.fault.RunFault.TheVariants as fault
 use Rattle.spawn_strategies.specs.SpawnOptions.{spawn_options_of}
 use Rattle.spawn_runs.specs.Headline.{SpawnRead, spawn_kept, spawn_rules}
 use Rattle.spawn_runs.proofs.Led.{led_off, led_to}
+use Rattle.spawn_runs.proofs.Progressing.{spawn_awaited, spawn_calls_few}
 use Rattle.spawn_runs.proofs.Silent.{spawn_silent}
 use Rattle.worker_run.proofs.Keeping.{keeps_none, keeps_since}
 use Rattle.worker_run.proofs.Reading.{fault_course, fault_puts, fault_sink, fault_told, task_course, task_floor}
@@ -31,6 +32,9 @@ returns-in-Ok-clause-run g c =
           (led_to options before mid made c.in-Ok.ensures.course) e.log end.fault e.ended;
       task = keeps_since (spawn_rules d) (spawn_kept d) before mid end c.in-Ok.ensures.files
           c.in-Ok.ensures.floor.later (task_floor made.task end.fault end.task e.ended) e.task;
+      awaited = spawn_awaited d made.task c.in-Ok.ensures.runs.sound end e.ended e.task.legal
+          c.in-Ok.ensures.runs.runnable;
+      few = spawn_calls_few d made.task c.in-Ok.ensures.runs.sound end e.ended e.task.legal;
       paces = e.paces;
     })
 
@@ -52,6 +56,8 @@ returns-in-Fault-clause-run g c =
           (IsFloorFailed (fault_of {T = SpawnTask} (Err w)))) c.in-Fault.is c.in-Err.ensures.floor)
           (fault_told (SpawnRead 0 options) (λ x. x.task) (spawn_silent 0 options) before mid
           f led);
+      awaited = tt;
+      few = tt;
       paces = refl;
     })
 

@@ -7,6 +7,7 @@ use Rattle.spawn_core.specs.Histories.{plan_of}
 use Rattle.tool_words.specs.Options.{options_of}
 use Rattle.worker_run.proofs.Fits.{own_fits}
 use Rattle.worker_run.proofs.Keeping.{keeps_none, keeps_since, own_keeps, own_legal_on}
+use Rattle.worker_run.proofs.Progressing.{own_awaited, own_calls_few}
 use Rattle.worker_run.proofs.Reading.{course_silent, fault_course, fault_puts, fault_sink, fault_told, task_course, task_floor}
 use Rattle.worker_run.specs.Headline.{own_kept, own_rules}
 use Rattle.worker_run.specs.Seen.{EndedTold}
@@ -36,6 +37,9 @@ returns-in-Ok-new-clause-run g c =
           before mid c.in-Ok.made end c.in-Ok.ensures.course e.log end.fault e.ended;
       task = task;
       legal = own_legal_on before end task;
+      awaited = own_awaited t c.in-Ok.ensures.sound.0 end e.ended task.legal
+          c.in-Ok.ensures.runnable;
+      few = own_calls_few t c.in-Ok.ensures.sound.0 end e.ended task.legal;
     }
 
 -- no memory was left for the core
@@ -47,6 +51,8 @@ returns-in_default-clause-run g c =
           (g.F.Floor.told c.read_task.new.floor) c.in-Ok.ensures.files
           (record { later = c.in-Ok.ensures.floor.later; rose = λ failed. absurd failed }) refl;
       legal = tt;
+      awaited = tt;
+      few = tt;
     })
 
 pub returns-in_default-clause-sink : goal.returns-in_default-clause-sink
@@ -69,6 +75,8 @@ returns-in-Err-clause-run g c =
           (fault_told (Course options) (λ made. made.0) (course_silent options) before mid f
           c.in-Err.ensures.course);
       legal = tt;
+      awaited = tt;
+      few = tt;
     })
 
 pub returns-in-Err-clause-report : goal.returns-in-Err-clause-report

@@ -1,28 +1,12 @@
--- Plans whose every branch has somewhere to run.
+-- Plans whose every branch has a berth to run on, if groups share the berths of a pool.
 use Rattle.std.specs.Prelude.{◌≡◌, ◌<◌, nat_lt, ℕ, true, Some, slice_get}
 use Rattle.run_plan.specs.declared.plan.Branch.{Branch}
-use Rattle.run_plan.specs.declared.plan.Plan.{Plan}
 use Rattle.run_plan.specs.declared.plan.PlanAction.{PlanAction}
-use Rattle.run_plan.specs.Groups.{berth_group, berths, group_of}
+use Rattle.run_plan.specs.Groups.{group_of}
 use Rattle.shared_rules.specs.declared.pools.SharedPlan.{SharedPlan}
 use Rattle.shared_rules.specs.declared.pools.SharedPool.{SharedPool}
 use Rattle.shared_rules.specs.Needs.{most_lines}
 use Rattle.shared_rules.specs.Pools.{has_group, pool_of, seats}
-
--- ---- groups with berths of their own
-
--- some berth of the plan is the group's
-pub record HasBerth (p : Plan) (g : ℕ) : Type 0 where
-  pub berth : ℕ
-  pub within : berth < berths p
-  pub is : berth_group p berth ≡ Some g
-
--- each group that a branch names has one
-abbrev pub EachHasBerth : Plan → Type 0
-EachHasBerth p = (a : ℕ) (x : PlanAction) (b : Branch) (g : ℕ) → slice_get p.actions a ≡ Some x
-    → group_of x b ≡ Some g → HasBerth p g
-
--- ---- groups that share the berths of a pool
 
 -- some berth is of a pool in which the group stands, and of which it may hold a line
 pub record HasPool (s : SharedPlan) (g : ℕ) : Type 0 where
