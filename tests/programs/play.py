@@ -6,6 +6,7 @@ import functools
 import json
 import os
 import pathlib
+import select
 import signal
 import subprocess
 import sys
@@ -102,17 +103,29 @@ def ended_unheard(words: Sequence[str | bytes | pathlib.Path], folder: pathlib.P
     """Returns the status of a program. Only `heard` bytes of its output are read, and its input stays open after `given`."""
     reading, writing = os.pipe()
     with subprocess.Popen(words, cwd=folder, stdin=subprocess.PIPE, stdout=writing, stderr=subprocess.DEVNULL) as program:
-        os.close(writing)
-        for _ in range(heard):
-            os.read(reading, 1)
-        os.close(reading)
         assert program.stdin is not None
         try:
+            for _ in range(heard):
+                if not select.select([reading], [], [], MOST_SECONDS)[0]:
+                    raise Wrong(f"wanted {heard} bytes of output within {MOST_SECONDS} seconds")
+                os.read(reading, 1)
+            os.close(reading)
+            await_no_reader(writing)
+            os.close(writing)
             os.write(program.stdin.fileno(), given)
             return program.wait(MOST_SECONDS)
         except subprocess.TimeoutExpired:
-            program.kill()
             raise Wrong(f"given  {shown((words, given))}\nwanted an end within {MOST_SECONDS} seconds, with the input open") from None
+        finally:
+            program.kill()
+
+
+def await_no_reader(writing: int) -> None:
+    """Waits until no process has the reading end of this pipe. A process that another thread starts has it until its program begins."""
+    poll = select.poll()
+    poll.register(writing, 0)
+    if not poll.poll(MOST_SECONDS * 1000):
+        raise Wrong(f"wanted a pipe without a reader within {MOST_SECONDS} seconds")
 
 
 def fault_line(err: bytes) -> str:
