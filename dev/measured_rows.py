@@ -41,9 +41,14 @@ def write(path: str, content: str | bytes) -> None:
         file.write(content.encode() if isinstance(content, str) else content)
 
 
+def flag_path(number: int, source: str) -> str:
+    """Returns the path of the flag file of the action of this number that copies this file. Lists of one folder share it."""
+    return f"flags/{source.replace('/', '.')}.{number}"
+
+
 def copy_action(number: int, inputs: list[str], **more: Any) -> dict[str, Any]:
     """Returns an action that copies the first of its inputs to its output, with demo_tool as a worker."""
-    flags = f"flags/{number}"
+    flags = flag_path(number, inputs[0])
     write(flags, f"--out=out/{number}\n--in={inputs[0]}\n")
     words = ["--json"] if "json" in more.get("requirements", {}).values() else []
     return {
@@ -195,7 +200,7 @@ def journals() -> list[Row]:
             for by, what in (("worker_tool", "no"), ("journal_run", "with its"))]
     if not os.path.exists(program("journal_run")):
         return rows
-    write_list("dies", [{**copy_action(it, ["in/0"]), "argv": ["/bin/true", f"@flags/{it}"]} for it in range(1000)])
+    write_list("dies", [{**copy_action(it, ["in/0"]), "argv": ["/bin/true", f"@{flag_path(it, 'in/0')}"]} for it in range(1000)])
     with open("dies.txt", "wb") as file:
         subprocess.run([program("journal_run"), "--retries=3", "dies.json"], stdout=file, stderr=subprocess.DEVNULL, check=False)
     slim = subprocess.run([TOP / "tools/journal-slim", "--contents", "dies.txt"], capture_output=True, check=True).stdout
@@ -219,7 +224,7 @@ def jobs() -> list[Row]:
 
 def waiting() -> list[Row]:
     """Returns rows of 32 workers that never answer and end after five seconds: the cost of 64 waiting lanes."""
-    actions = [{**copy_action(it, ["in/0"]), "argv": ["/bin/sh", "-c", "exec /bin/sleep 5", f"@flags/{it}"], "env": {"NUMBER": str(it)}}
+    actions = [{**copy_action(it, ["in/0"]), "argv": ["/bin/sh", "-c", "exec /bin/sleep 5", f"@{flag_path(it, 'in/0')}"], "env": {"NUMBER": str(it)}}
                for it in range(32)]
     write("in/0", "x")
     write_list("waits", actions)
