@@ -1,7 +1,7 @@
 //! Lanes as the bits of a number: bit `k` is lane `k`.
-ghost use Rattle.std.specs.Prelude.{◌≡◌, ◌<◌, ◌+◌, ◌==◌, ◌&&◌, ℕ, Bool, not};
-ghost use Rattle.std.specs.Int.{bit_at};
+ghost use Rattle.std.specs.Prelude.{◌≡◌, ◌<◌, ◌≤◌, ◌+◌, ℕ, Bool};
 ghost use Rattle.core_bench.specs.Marks.{Marks};
+ghost use Rattle.core_bench.specs.Waking.{is_stirred};
 
 /// Returns these lanes, which are below `lane`, together with `lane` if it must be marked.
 pub(crate) fn mark(lanes: u128, lane: u32, is: bool) -> u128
@@ -11,18 +11,17 @@ pub(crate) fn mark(lanes: u128, lane: u32, is: bool) -> u128
     if is { lanes | (1 << lane) } else { lanes }
 }
 
-// Returns true if the lane is none of these.
-fn is_apart(lanes: u128, lane: u32) -> bool
-    requires { lane < 128 }
-    ensures { result ≡ (bit_at lanes lane == 0) }
+/// Returns the lanes of a span that are marked now, weren't before, and aren't the caller's. Bit `k`
+/// stands for the lane `first + k`.
+pub(crate) fn stirred(now: u128, before: u128, first: u32, caller: u32) -> u128
+    ensures { (news : ℕ → Bool) (count : ℕ) → count ≤ 128
+        → Marks now count (λ k. news (first + k))
+        → Marks result count (is_stirred news first before caller) }
 {
-    (lanes >> lane) % 2 == 0
-}
-
-/// Returns true if the lane has news, isn't the caller's own and is none of these.
-pub(crate) fn is_stirred(has_news: bool, lanes: u128, is_own: bool, lane: u32) -> bool
-    requires { lane < 128 }
-    ensures { result ≡ (has_news && (not is_own && (bit_at lanes lane == 0))) }
-{
-    has_news && !is_own && is_apart(lanes, lane)
+    let new = now & !before;
+    if first <= caller && caller - first < 128 {
+        new & !(1 << (caller - first))
+    } else {
+        new
+    }
 }

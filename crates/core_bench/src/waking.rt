@@ -3,7 +3,7 @@ ghost use Rattle.std.specs.Prelude.{◌≡◌, ◌≤◌, []};
 ghost use Rattle.core_contract.specs.Discipline.{Discipline};
 ghost use Rattle.core_bench.specs.Waking.{Hints, Looks, LooksRound, Wakes, lanes_of};
 
-use crate::marks::{is_stirred, mark};
+use crate::marks::{mark, stirred};
 use core_contract::Rules;
 use exec_journal::Reply;
 
@@ -32,14 +32,14 @@ impl Span {
         requires count { count ≤ 128 }
         ensures { Looks (C.news core.now) first count caller self result }
     {
-        let (mut with_news, mut stirred) = (0, 0);
+        let mut with_news = 0;
         for k in 0..count {
-            let has_news = core.has_news(first + k);
-            let is_stirred = is_stirred(has_news, self.with_news, first + k == caller, k);
-            with_news = mark(with_news, k, has_news);
-            stirred = mark(stirred, k, is_stirred);
+            with_news = mark(with_news, k, core.has_news(first + k));
         }
-        Span { with_news, stirred }
+        Span {
+            with_news,
+            stirred: stirred(with_news, self.with_news, first, caller),
+        }
     }
 }
 

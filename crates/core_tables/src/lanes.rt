@@ -1,5 +1,8 @@
 // The outstanding work of each lane.
-ghost use Rattle.std.specs.Prelude.{◌≡◌, ◌<◌, length, IfOk, replicate, slice_get, Some};
+ghost use Rattle.std.specs.Prelude.{◌≡◌, ◌<◌, ◌&&◌, not, length, IfOk, replicate, slice_get, Some};
+ghost use Rattle.run_plan.specs.declared.plan.Kind.{Kind};
+ghost use Rattle.run_plan.specs.declared.plan.Plan.{Plan};
+ghost use Rattle.exec_journal.specs.declared.call.Call.TheVariants.{Ask, Take};
 ghost use Rattle.std.specs.List.{list_any};
 ghost use Rattle.exec_journal.specs.Scripts.{is_made, outputs_of, makes, may_find, is_gathered, is_exit, is_refusal, is_whole_or_fault};
 ghost use Rattle.exec_journal.specs.Entries.{attempt_of};
@@ -102,6 +105,26 @@ impl Lanes {
         }
     }
 
+    /// Returns true if the lane may ask for an order.
+    pub fn may_ask(&self, lane: u32) -> bool
+        ensures { (p : Plan) (kind : Kind) → result ≡ allows_by p kind self.now lane Ask }
+    {
+        match self.lanes.get(lane as usize) {
+            Some(state) => lane % 2 == 0 && state.is_free() && may_ask(state.order, state.said),
+            None => false,
+        }
+    }
+
+    /// Returns true if the lane may take a line.
+    pub fn may_take(&self, lane: u32) -> bool
+        ensures { (p : Plan) (kind : Kind) → result ≡ allows_by p kind self.now lane Take }
+    {
+        match self.lanes.get(lane as usize) {
+            Some(state) => lane % 2 != 0 && state.is_free() && may_take(state.order, state.said),
+            None => false,
+        }
+    }
+
     /// Returns the state of the lane.
     pub fn state(&self, lane: u32) -> LaneState
         requires { lane < length self.now }
@@ -121,6 +144,13 @@ impl Lanes {
 }
 
 impl LaneState {
+    // Returns true if the lane was not told to stop and has not halted.
+    fn is_free(&self) -> bool
+        ensures { result ≡ not self.now.stopped && not self.now.halted }
+    {
+        !self.stopped && !self.halted
+    }
+
     fn may(&self, plan: &Plan, kind: Kind, proxy: bool, call: &Call) -> bool
         ensures { result ≡ may_by plan.now kind proxy self.now call.now }
     {
