@@ -5,3 +5,4 @@ pub mod Roomed
 pub mod Oldest
 pub mod First
 pub mod Chosen
+pub mod Resting

@@ -7,11 +7,12 @@
 //! lines are launched.
 #![tactic(auto)]
 
-ghost use Rattle.std.specs.Prelude.{◌≡◌, ◌<◌, Some, length, slice_get};
+ghost use Rattle.std.specs.Prelude.{◌≡◌, ◌<◌, Some, true, length, slice_get};
 ghost use Rattle.exec_journal.specs.Words.{why_of};
 ghost use Rattle.worker_pool.specs.Rows.{is_live_row, last_of};
 ghost use Rattle.core_tables.specs.Seats.{seat_at};
 ghost use Rattle.core_state.specs.Choices.{Reads, row_at, cause_at};
+ghost use Rattle.earliest_first.specs.Busy.{IsBusy, is_at_rest, is_full};
 ghost use Rattle.earliest_first.specs.Choices.{ReadsOwn, leave_by, kill_by, unwanted_by, may_cancel_by, cancel_by, earliest_of, send_by, has_room, some_room, launch_by, first_with, first_without, first_choice, is_vacant, choice_on, chosen, is_runner, is_vacant_row};
 
 pub mod laws;
@@ -26,10 +27,46 @@ pub fn choose(state: &State, berth: u32) -> Choice
     requires { ReadsOwn state.now berth }
     ensures { result ≡ chosen state.now berth }
 {
+    if is_busy(state, berth) {
+        return Choice::Idle;
+    }
     match group_of_berth(&state.plan, berth) {
         Some(seat) => choose_next(state, berth, seat, earliest(state, berth, seat.group)),
         None => Choice::Idle,
     }
+}
+
+/// Returns true if the berth's last line is live and full, and nothing is due on it. Then no rule
+/// applies on the berth, whatever its group and the group's next attempt are.
+pub fn is_busy(state: &State, berth: u32) -> bool
+    requires { Reads state.now berth }
+    ensures { result ≡ true → IsBusy state.now berth }
+{
+    match state.pool.last_line(berth) {
+        Some(line) => is_full(state, line) && is_at_rest(state, berth, line),
+        None => false,
+    }
+}
+
+// Returns true if the line is live, no attempt is bound to it, and it has no free place.
+fn is_full(state: &State, line: u32) -> bool
+    requires { line < length state.now.pool.lines }
+    ensures { result ≡ is_full state.now line (row_at state.now line) }
+{
+    let row = state.pool.line(line);
+    is_live(row) && !row.bound && state.pool.free_places(line) == 0
+}
+
+// Returns true if a berth with this last line has nothing to quit, to kill, to gather or to cancel.
+fn is_at_rest(state: &State, berth: u32, line: u32) -> bool
+    requires reads { Reads state.now berth }
+    requires line { line < length state.now.cancels.lines }
+    ensures { result ≡ is_at_rest state.now berth line }
+{
+    !state.is_over()
+        && state.last.of(berth).cause.is_none()
+        && state.cancels.cancel_order(line).is_none()
+        && state.matches.waiting(berth).is_none()
 }
 
 /// Returns the decision on a berth of this group, if `next` is the group's next attempt.

@@ -12,7 +12,7 @@ ghost use Rattle.local_delay.specs.Stands.{StandsFor};
 use crate::delay::LocalDelay;
 use core_state::{Choice, State};
 use core_tables::{BerthGroup, group_of_berth};
-use earliest_first::choose_next;
+use earliest_first::{choose_next, is_busy};
 use exec_journal::{Call, Kind, Plan, Reply};
 use plain_values::NoMemory;
 use spawn_core::{Core, EarliestFirst, Policy};
@@ -81,6 +81,7 @@ impl Policy for LocalDelay {
 
     fn choose(&self, state: &State, berth: u32) -> Choice {
         match group_of_berth(&state.plan, berth) {
+            Some(_) if is_busy(state, berth) => Choice::Idle,
             Some(seat) => choose_next(state, berth, seat, self.next(state, berth, seat.group)),
             None => leave(state),
         }

@@ -1,11 +1,12 @@
 // The outlook of a lane before it calls.
 ghost use Rattle.std.specs.Prelude.{◌≡◌, ◌<◌, ◌/◌, not, is_some};
+ghost use Rattle.run_plan.specs.declared.plan.Kind.{Kind};
 ghost use Rattle.run_plan.specs.Sound.{Sound};
 ghost use Rattle.core_state.specs.Choices.{Reads};
 ghost use Rattle.core_state.specs.Machine.{takeable};
 ghost use Rattle.core_contract.specs.News.{question};
 ghost use Rattle.spawn_core.specs.Outlook.{is_idle, told_by};
-ghost use Rattle.spawn_core.specs.Turns.{orders_of};
+ghost use Rattle.spawn_core.specs.Turns.{may_make, orders_of};
 
 use crate::policy::Policy;
 use core_state::{Choice, State};
@@ -23,6 +24,21 @@ pub fn question<P: Policy>(policy: &P, plan: &Plan, lane: u32) -> Call
         Call::Ask
     } else {
         Call::Take
+    }
+}
+
+/// Returns true if the lane may make its question. Which plan it is and what kind of lines its berth
+/// has doesn't matter.
+pub fn may_question<P: Policy>(policy: &P, state: &State, lane: u32) -> bool
+    requires { Sound state.now.plan }
+    ensures { (kind : Kind) → result ≡ may_make state.now kind
+        ((P.discipline (P.basis policy.now state.now.plan)).ticks lane) lane
+        (question (P.discipline (P.basis policy.now state.now.plan)).ticks lane) }
+{
+    if lane % 2 == 0 {
+        state.lanes.may_ask(lane)
+    } else {
+        state.lanes.may_take(lane) && !policy.ticks(&state.plan, lane)
     }
 }
 

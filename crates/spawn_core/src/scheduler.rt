@@ -198,14 +198,8 @@ impl<P: Policy> Rules for Core<P> {
             → StandsIn (P.discipline b) (P.stands b) self.now j
             → result ≡ has_news (P.discipline b) j lane }
     {
-        match self.policy.seat(&self.state, lane / 2) {
-            Some(seat) => {
-                let asked = question(&self.policy, &self.state.plan, lane);
-                may_make(&self.policy, &self.state, seat, lane, &asked)
-                    && is_awaited(&self.policy, &self.state, lane)
-            }
-            None => false,
-        }
+        may_question(&self.policy, &self.state, lane)
+            && is_awaited(&self.policy, &self.state, lane)
     }
 
     fn owed(&self) -> u64 {
