@@ -29,7 +29,6 @@ use Rattle.core_tables.proofs.Seated.{IsSeat, seat_is, kind_by_group}
 use Rattle.core_state.specs.declared.choice.Choice.{Choice}
 use Rattle.core_state.specs.declared.choice.Choice.TheVariants as choice
 use Rattle.core_state.specs.declared.state.State.{State}
-use Rattle.core_state.specs.Choices as own_state
 use Rattle.core_state.specs.Machine.{carried_reply}
 use Rattle.core_laws.specs.Stands.{SeatFits, Stands}
 use Rattle.earliest_first.specs.Choices as c

@@ -1,5 +1,5 @@
 -- On a busy berth nothing is chosen.
-use Rattle.std.proofs.Common.{◌≡◌, ℕ, ◌==◌, nat_lt, Bool, true, false, cond, ◌&&◌, not, Option, Some, None, is_some, is_none, option_map, unwrap_or, refl, ap, sym, ◌∙◌, arith}
+use Rattle.std.proofs.Common.{◌≡◌, ℕ, ◌==◌, nat_lt, Bool, true, false, cond, ◌&&◌, ◌||◌, ℤ, not, Option, Some, None, is_some, is_none, option_map, unwrap_or, refl, ap, ◌∙◌, arith}
 use Rattle.std.proofs.lemmas.Bool.{and_parts, eqb-true, le-ltb}
 use Rattle.run_plan.specs.Groups.{is_single}
 use Rattle.list_lemmas.specs.Options.{or_else}
@@ -15,7 +15,7 @@ use Rattle.core_state.specs.declared.choice.Choice.TheVariants as choice
 use Rattle.core_state.specs.declared.state.State.{State}
 use Rattle.core_state.specs.Choices.{attempt_at, cause_at, is_over, row_at}
 use Rattle.earliest_first.specs.Busy.{IsBusy, is_at_rest, is_full}
-use Rattle.earliest_first.specs.Choices.{cancel_by, choice_on, first_at, first_with, is_runner, is_vacant_line, is_vacant_row, kill_by, last_choice, launch_by, leave_by, may_cancel_by, send_by, unwanted_by, waiting_at}
+use Rattle.earliest_first.specs.Choices.{cancel_by, choice_for, choice_on, first_at, first_with, is_runner, is_vacant_line, is_vacant_row, kill_by, last_choice, launch_by, leave_by, may_cancel_by, send_by, unwanted_by, waiting_at}
 
 is_false : (b : Bool) → not b ≡ true → b ≡ false
 is_false true e = let no : false ≡ true = e in cc
@@ -25,8 +25,11 @@ nothing : {X : Type 0} → (o : Option X) → is_none o ≡ true → o ≡ None
 nothing (Some x) e = let no : false ≡ true = e in cc
 nothing None e = refl
 
+abbrev empty : (X : Type 0) → Option X
+empty X = None
+
 -- where both ways give nothing, nothing is given
-neither : {X : Type 0} → (b : Bool) → cond b None (None {A = X}) ≡ None
+neither : {X : Type 0} → (b : Bool) → cond b (empty X) (empty X) ≡ empty X
 neither true = refl
 neither false = refl
 
@@ -135,7 +138,7 @@ module _ (s : State) (w l : ℕ) (x : LineRow) (full : is_full s l x ≡ true)
 pub is_busy : (s : State) (w l : ℕ) → pool.last_of s.pool w ≡ Some l
     → is_full s l (row_at s l) ≡ true → is_at_rest s w l ≡ true → IsBusy s w
 is_busy s w l last full rest = record {
-  open = not_over s w l (row_at s l) full rest;
+  goes_on = not_over s w l (row_at s l) full rest;
   first = λ seat next. ap (first_at s w seat next) last
       ∙ none_first s w l (row_at s l) full rest seat next;
   occupied = ap (is_vacant_line s) last ∙ not_vacant s w l (row_at s l) full rest;
@@ -147,3 +150,9 @@ pub chooses_nothing : (s : State) (w : ℕ) → IsBusy s w → (seat : BerthGrou
 chooses_nothing s w busy seat next =
     ap (λ o. unwrap_or o (last_choice s w seat next)) (busy.first seat next)
     ∙ ap (λ b. cond b (launch_by s seat next) choice.Idle) busy.occupied
+
+-- and on a berth of no group nothing is chosen either
+pub chosen_on_busy : (s : State) (w : ℕ) → IsBusy s w → (next : ℕ → Option Attempt)
+    (o : Option BerthGroup) → choice_for s w next o ≡ choice.Idle
+chosen_on_busy s w busy next None = refl
+chosen_on_busy s w busy next (Some seat) = chooses_nothing s w busy seat (next seat.group)

@@ -21,6 +21,6 @@ is_at_rest s w l =
 
 -- no rule chooses anything on the berth, whatever its group and the group's next attempt are
 pub record IsBusy (s : State) (w : ℕ) : Type 0 where
-  pub open : is_over s ≡ false
+  pub goes_on : is_over s ≡ false
   pub first : (seat : BerthGroup) (next : Option Attempt) → first_choice s w seat next ≡ None
   pub occupied : is_vacant s w ≡ false

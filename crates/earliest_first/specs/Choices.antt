@@ -1,7 +1,7 @@
 -- What is chosen for an Ask on a plan's own berths, as a function of the tables and of what is next in
 -- each group: where a line may be given something new, it is that of its berth's group; and a line is
 -- launched for it where no live one of the group has a free place.
-use Rattle.std.specs.Prelude.{◌≡◌, ℕ, zero, suc, ◌+◌, ◌<◌, ◌≤◌, ◌^◌, nat_lt, Bool, false, ◌&&◌, true, ◌||◌, not, Option, Some, None, is_some, option_map, unwrap_or, if◌then◌else◌, length, slice_get}
+use Rattle.std.specs.Prelude.{ℕ, zero, suc, ◌+◌, ◌<◌, ◌≤◌, ◌^◌, nat_lt, Bool, false, ◌&&◌, true, ◌||◌, not, Option, Some, None, is_some, option_map, unwrap_or, if◌then◌else◌, length, slice_get}
 use Rattle.std.specs.List.{find}
 use Rattle.run_plan.specs.declared.plan.Branch.{Branch}
 use Rattle.run_plan.specs.Groups.{berths, is_single, is_remote}

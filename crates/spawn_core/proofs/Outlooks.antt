@@ -1,7 +1,8 @@
 -- What the tables say of a lane before it calls is what the journal says.
-use Rattle.std.proofs.Common.{◌≡◌, ℕ, ◌*◌, ◌+◌, ◌/◌, ◌<◌, ◌≤◌, Bool, true, cond, List, length, Option, Some, None, refl, ap, sym, subst, ◌∙◌, arith, lt-ltb}
+use Rattle.std.proofs.Common.{◌≡◌, ℕ, ◌*◌, ◌+◌, ◌/◌, ◌%◌, ◌<◌, ◌≤◌, ◌==◌, ◌&&◌, not, Bool, true, false, cond, List, length, Option, Some, None, refl, ap, sym, subst, ◌∙◌, arith, lt-ltb}
 use Rattle.std.proofs.Math.Nat.{mul-le-mul_right}
 use Rattle.std.specs.Prelude.{slice_get}
+use Rattle.std.proofs.lemmas.Option.{slice_get_within}
 use Rattle.run_plan.specs.declared.plan.Kind.{Kind}
 use Rattle.run_plan.specs.declared.plan.Plan.{Plan}
 use Rattle.run_plan.specs.Sound.{Sound}
@@ -15,7 +16,7 @@ use Rattle.exec_journal.specs.Words.{last_line, last_work, stopped, has_halted}
 use Rattle.journal_laws.specs.Paid.{count, lane_owes, may_halt, owes_files, wins_files}
 use Rattle.core_tables.specs.declared.lanes.LaneState.{LaneState}
 use Rattle.core_tables.specs.declared.berth_group.BerthGroup.{BerthGroup}
-use Rattle.core_tables.specs.Lanes.{is_won, lane_in, said_after, said_of_work, state_by}
+use Rattle.core_tables.specs.Lanes.{is_won, lane_in, may_some, said_after, said_of_work, state_by}
 use Rattle.core_tables.specs.Last.{last_in, row_of}
 use Rattle.core_tables.proofs.Lengths.{length_is}
 use Rattle.core_state.specs.declared.state.State.{State}
@@ -25,11 +26,9 @@ use Rattle.core_laws.specs.Stands as tables
 use Rattle.core_laws.proofs.AllOf.{all_of}
 use Rattle.core_laws.proofs.Read as read
 use Rattle.spawn_core.specs.Policies.{StandsBy}
-use Rattle.spawn_core.specs.Turning.{IsServed}
 use Rattle.core_contract.specs.News.{question}
-use Rattle.spawn_core.specs.Allowed.{allowed_is, lane_within}
-use Rattle.spawn_core.specs.Turns.{Orders, may_make}
-use Rattle.spawn_core.specs.Outlook.{owes_by}
+use Rattle.spawn_core.specs.Turns.{Orders, asked_for, may_make}
+use Rattle.spawn_core.specs.Outlook.{has_news_at, is_idle, owes_by, told_by}
 use Rattle.spawn_core.specs.Stands.{HasHistory, HasJournal, HasTables, KeptBy}
 
 -- ---- what a lane owes
@@ -119,16 +118,42 @@ attempts_kept p sound =
     let both = mul-le-mul_right p.limit few in
     (few, omega (arith, both, less))
 
--- a lane that may ask by the tables is one of a berth, which can be read
-pub reads_asking : (q : Discipline) (s : State) (j : List Entry) (lane : ℕ) (seat : BerthGroup)
-    (x : Orders) → StandsBy q s j → IsServed q s j lane seat x
-    → may_make s seat.kind (q.ticks lane) lane (question q.ticks lane) ≡ true
-    → (lane / 2 < q.seats) × Reads s (lane / 2)
-reads_asking q s j lane seat x st v may =
-    let asked = question q.ticks lane in
-    let scripted = sym (allowed_is q s j lane seat st.tables v.remote asked) ∙ may in
-    let within = lane_within q j lane asked scripted in (
-      within,
-      read.reads q.plan q.seats s j st.tables
-          (all_of q.plan q.seats s j st.tables).facts (lane / 2) within,
-    )
+-- what is read of a berth of the discipline is there
+pub reads_berth : (q : Discipline) (s : State) (j : List Entry) (w : ℕ) → StandsBy q s j
+    → w < q.seats → Reads s w
+reads_berth q s j w st within =
+    read.reads q.plan q.seats s j st.tables (all_of q.plan q.seats s j st.tables).facts w within
+
+-- ---- a lane that may make a call by the tables
+
+pub lane_listed : (s : State) (k : Kind) (ticks : Bool) (lane : ℕ) (c : Call)
+    → may_make s k ticks lane c ≡ true → lane < length s.lanes
+lane_listed s k ticks lane c may = here (slice_get s.lanes lane) refl may
+  where
+    here : (o : Option LaneState) → slice_get s.lanes lane ≡ o
+        → may_some s.plan k (lane % 2 == 0) o (asked_for ticks c) ≡ true → lane < length s.lanes
+    here (Some x) at m = slice_get_within s.lanes lane x at
+    here None at m = let no : false ≡ true = m in cc
+
+-- its berth is one of the discipline's
+pub berth_of_lane : (q : Discipline) (s : State) (j : List Entry) (k : Kind) (ticks : Bool)
+    (lane : ℕ) (c : Call) → tables.Stands q.plan q.seats s j → may_make s k ticks lane c ≡ true
+    → lane / 2 < q.seats
+berth_of_lane q s j k ticks lane c st may =
+    let listed = lane_listed s k ticks lane c may in
+    let all = lanes_are q.seats q.plan s j st in omega (arith, listed, all)
+
+-- one that may not make its question has no news, whatever stands at its berth
+pub no_news : (s : State) (x : Orders) (ticks : ℕ → Bool) (lane : ℕ) (o : Option BerthGroup)
+    → ((k : Kind) → may_make s k (ticks lane) lane (question ticks lane) ≡ false)
+    → has_news_at s x ticks lane o ≡ false
+no_news s x ticks lane None may = refl
+no_news s x ticks lane (Some seat) may =
+    ap (λ b. b && not (is_idle (told_by s x (ticks lane) lane))) (may seat.kind)
+
+-- and one that may has news where it isn't answered Idle
+pub news_of_asking : (s : State) (x : Orders) (ticks : ℕ → Bool) (lane : ℕ) (seat : BerthGroup)
+    → may_make s seat.kind (ticks lane) lane (question ticks lane) ≡ true
+    → has_news_at s x ticks lane (Some seat) ≡ not (is_idle (told_by s x (ticks lane) lane))
+news_of_asking s x ticks lane seat may =
+    ap (λ b. b && not (is_idle (told_by s x (ticks lane) lane))) may

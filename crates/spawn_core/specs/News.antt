@@ -17,7 +17,7 @@ use Rattle.core_laws.specs.Stands as tables
 use Rattle.core_laws.proofs.AllOf.{all_of}
 use Rattle.core_contract.specs.Disciplines.{IsDiscipline, LegalBy, script_of}
 use Rattle.core_contract.specs.Discipline.{Discipline}
-use Rattle.core_contract.specs.Ruled.{answer_after, journal_of}
+use Rattle.core_contract.specs.Ruled.{journal_of}
 use Rattle.core_contract.specs.Moves.{History}
 use Rattle.core_contract.specs.News.{question, HasNews, SaysNews}
 use Rattle.history_laws.proofs.Fitting.{in_script}

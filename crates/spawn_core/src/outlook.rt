@@ -10,25 +10,11 @@ ghost use Rattle.spawn_core.specs.Turns.{may_make, orders_of};
 
 use crate::policy::Policy;
 use core_state::{Choice, State};
-use exec_journal::{Call, Plan, Reply};
+use exec_journal::Reply;
 
-/// Returns the call of a lane that owes nothing: a Tick if the lane makes Ticks, otherwise Ask for
-/// a proxy lane and Take for a tap lane.
-pub fn question<P: Policy>(policy: &P, plan: &Plan, lane: u32) -> Call
-    requires { Sound plan.now }
-    ensures { result ≡ question (P.discipline (P.basis policy.now plan.now)).ticks lane }
-{
-    if policy.ticks(plan, lane) {
-        Call::Tick
-    } else if lane % 2 == 0 {
-        Call::Ask
-    } else {
-        Call::Take
-    }
-}
-
-/// Returns true if the lane may make its question. Which plan it is and what kind of lines its berth
-/// has doesn't matter.
+/// Returns true if the lane may make the call of a lane that owes nothing: a Tick if the lane makes
+/// Ticks, otherwise Ask for a proxy lane and Take for a tap lane. The kind of the berth's lines
+/// doesn't matter for that.
 pub fn may_question<P: Policy>(policy: &P, state: &State, lane: u32) -> bool
     requires { Sound state.now.plan }
     ensures { (kind : Kind) → result ≡ may_make state.now kind

@@ -20,10 +20,10 @@ ghost use Rattle.spawn_core.specs.Turns.{orders_of};
 
 use crate::earliest::EarliestFirst;
 use crate::lanes::lane_owes;
-use crate::outlook::{is_awaited, question};
+use crate::outlook::{is_awaited, may_question};
 use crate::policy::Policy;
 use crate::tables::{action_tables, lane_tables, line_tables};
-use crate::turn::{may_make, step};
+use crate::turn::step;
 use core_contract::Rules;
 use core_state::State;
 use core_tables::Files;
@@ -198,8 +198,7 @@ impl<P: Policy> Rules for Core<P> {
             → StandsIn (P.discipline b) (P.stands b) self.now j
             → result ≡ has_news (P.discipline b) j lane }
     {
-        may_question(&self.policy, &self.state, lane)
-            && is_awaited(&self.policy, &self.state, lane)
+        may_question(&self.policy, &self.state, lane) && is_awaited(&self.policy, &self.state, lane)
     }
 
     fn owed(&self) -> u64 {

@@ -41,15 +41,9 @@ pub fn step<P: Policy>(
     }
 }
 
-/// Returns true if the lane may make the call, given this group at its berth. A lane that makes
-/// Ticks may make one whenever it may ask.
-pub fn may_make<P: Policy>(
-    policy: &P,
-    state: &State,
-    seat: BerthGroup,
-    lane: u32,
-    call: &Call,
-) -> bool
+// Returns true if the lane may make the call, given this group at its berth. A lane that makes Ticks
+// may make one whenever it may ask.
+fn may_make<P: Policy>(policy: &P, state: &State, seat: BerthGroup, lane: u32, call: &Call) -> bool
     requires { Sound state.now.plan }
     ensures { result ≡ may_make state.now seat.kind
         ((P.discipline (P.basis policy.now state.now.plan)).ticks lane) lane call.now }
