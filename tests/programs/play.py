@@ -39,6 +39,7 @@ class Programs:
     journal_run: pathlib.Path
     spawn_tool: pathlib.Path
     shared_tool: pathlib.Path
+    line_worker: pathlib.Path
 
 
 @dataclasses.dataclass(frozen=True)

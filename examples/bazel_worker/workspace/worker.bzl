@@ -13,7 +13,8 @@ def _do(ctx, out, words):
         execution_requirements = {
             "supports-workers": "1",
             "supports-multiplex-workers": "1" if ctx.attr.multiplex else "0",
-            "requires-worker-protocol": "proto",
+            "supports-worker-cancellation": "1",
+            "requires-worker-protocol": ctx.attr.protocol,
         },
     )
     return [DefaultInfo(files = depset([out]))]
@@ -24,6 +25,7 @@ def _copies(ctx):
     words = ctx.actions.args()
     words.add(out.path, format = "--out=%s")
     words.add_all(ctx.files.srcs, format_each = "--in=%s")
+    words.add_all(ctx.attr.more)
     return _do(ctx, out, words)
 
 def _lines(ctx):
@@ -33,6 +35,12 @@ def _lines(ctx):
     words.add(out.path)
     words.add_all(ctx.files.srcs)
     return _do(ctx, out, words)
+
+def _link(ctx):
+    """A link that Bazel itself makes."""
+    out = ctx.actions.declare_file(ctx.label.name + ".link")
+    ctx.actions.symlink(output = out, target_file = ctx.file.src)
+    return [DefaultInfo(files = depset([out]))]
 
 def _text(ctx):
     """A file that Bazel itself writes."""
@@ -44,11 +52,14 @@ WORDS = {
     "srcs": attr.label_list(allow_files = True),
     "mnemonic": attr.string(mandatory = True),
     "multiplex": attr.bool(),
+    "protocol": attr.string(default = "proto", values = ["proto", "json"]),
     "worker": attr.label(mandatory = True, executable = True, cfg = "exec", allow_single_file = True),
 }
 
-copies = rule(implementation = _copies, attrs = WORDS)
+copies = rule(implementation = _copies, attrs = dict(WORDS, more = attr.string_list()))
 
 lines = rule(implementation = _lines, attrs = WORDS)
+
+link = rule(implementation = _link, attrs = {"src": attr.label(mandatory = True, allow_single_file = True)})
 
 text = rule(implementation = _text, attrs = {"text": attr.string()})
