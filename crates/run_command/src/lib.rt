@@ -6,5 +6,5 @@ mod hints;
 mod reasons;
 mod telling;
 
-pub use hints::{Cause, OPTIONS, Program, TOGETHER};
+pub use hints::{Cause, OPTIONS, Outputs, Prints, Program, TOGETHER};
 pub use telling::{end, end_unread, tell, tell_ended, words};

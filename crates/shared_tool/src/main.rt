@@ -4,7 +4,7 @@
 
 use outside_real::{RealFloor, RealSink, open_standard, tell_about};
 use real_shared::run_told_shared;
-use run_command::{Program, end_unread, tell_ended, words};
+use run_command::{Prints, Program, end_unread, tell_ended, words};
 use shared_tasks::other_words;
 use std::process::ExitCode;
 
@@ -31,6 +31,7 @@ const PROGRAM: Program = Program {
     together: "there is one list and one --max_workers=N, and every option but --extra_flag stands once",
     options: OPTIONS,
     generates: false,
+    prints: Prints::Report,
 };
 
 fn main(rt: HostRuntime) -> ExitCode {

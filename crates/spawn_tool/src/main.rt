@@ -4,7 +4,7 @@
 
 use outside_real::{RealFloor, RealSink, open_standard, tell_about};
 use real_spawn::run_told_strategies;
-use run_command::{Program, end_unread, tell_ended, words};
+use run_command::{Prints, Program, end_unread, tell_ended, words};
 use spawn_runs::Strategic;
 use spawn_tasks::other_words;
 use std::alloc::Global;
@@ -39,6 +39,7 @@ const PROGRAM: Program = Program {
     together: "there is one list, every option but --strategy and --extra_flag stands once at most, each mnemonic has one --strategy, and --remote and --sandboxed are 16 together at most",
     options: OPTIONS,
     generates: false,
+    prints: Prints::Report,
 };
 
 fn main(rt: HostRuntime) -> ExitCode {
