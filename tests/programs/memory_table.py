@@ -4,6 +4,7 @@ from __future__ import annotations
 
 import dataclasses
 import pathlib
+import re
 import shutil
 import subprocess
 import sys
@@ -24,6 +25,8 @@ NAMES = ("p", "q", "r")
 WANTED = {name: f"the content of {name}\n".encode() for name in NAMES}
 
 BEFORE = ["nothing was begun"]
+# What a run says if the refused allocation was for a thread.
+NO_THREAD = re.compile(r"the system started [0-9]+ of [0-9]+ threads, so nothing was begun: look at ulimit -u, pids\.max and the free memory")
 
 
 @dataclasses.dataclass(frozen=True)
@@ -114,6 +117,8 @@ def stage_of(case: Lacking, left: Left) -> str:
         return ""
     compare("the fault's line", [f"{case.program_name()}: no memory"], left.lines[:1])
     lines = [line.removeprefix("  ") for line in left.lines[1:]]
+    if len(lines) == 1 and NO_THREAD.fullmatch(lines[0]):
+        lines = BEFORE
     stages = {"before": BEFORE, "during": case.told.during, "after": case.told.after}
     stage = next((stage for stage, wanted in stages.items() if lines == wanted), None)
     if stage is None:

@@ -117,7 +117,7 @@ fn stage_lines(
 ) -> Result<String, NoMemory> {
     if let (Stage::Before, Some(Lack::Threads { wanted, started })) = (stage, cause.lack) {
         return Ok(format!(in alloc;
-            "  the system started {started} of {wanted} threads, so nothing was begun: look at ulimit -u and pids.max\n"
+            "  the system started {started} of {wanted} threads, so nothing was begun: look at ulimit -u, pids.max and the free memory\n"
         )?);
     }
     let mut lines = String::from_str(alloc, outputs_line(stage, cause.outputs))?;
