@@ -1,4 +1,5 @@
 // The hints that follow the line of a fault on standard error. They begin with two spaces.
+use crate::rules::broken_rule;
 use fault_cures::word_lines;
 use list_actions::ListFault;
 use plain_values::NoMemory;
@@ -7,9 +8,10 @@ use std::io;
 use worker_run::{Lack, RunFault, Stage};
 
 /// The texts about a program and its words on standard error.
+#[derive(Clone, Copy)]
 pub struct Program {
     pub name: &'static str,
-    /// The rule for all its words together.
+    /// Its rule for words together that are each accepted, apart from those that `rules` knows.
     pub together: &'static str,
     /// Its options, one per line.
     pub options: &'static str,
@@ -92,7 +94,10 @@ pub fn lines(
                 Some(word) if !program.generates => {
                     format!(in alloc; "  this word isn't accepted: {:?}\n", word.as_str())?
                 }
-                _ => word_lines(alloc, words, program.together)?,
+                _ => {
+                    let rule = broken_rule(alloc, program, words)?;
+                    word_lines(alloc, words, rule.as_str())?
+                }
             };
             let name = program.name;
             lines.push_str(format!(in alloc; "  usage: {name} [OPTION].. LIST\n")?.as_str())?;

@@ -4,6 +4,7 @@
 mod cures;
 mod hints;
 mod reasons;
+mod rules;
 mod telling;
 
 pub use hints::{Cause, OPTIONS, Outputs, Prints, Program, TOGETHER};

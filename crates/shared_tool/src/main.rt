@@ -28,7 +28,7 @@ const OPTIONS: &str = "  LIST                              the path of the actio
 
 const PROGRAM: Program = Program {
     name: "shared_tool",
-    together: "there is one list and one --max_workers=N, and every option but --extra_flag stands once",
+    together: "there is one --max_workers=N",
     options: OPTIONS,
     generates: false,
     prints: Prints::Report,
