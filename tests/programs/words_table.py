@@ -25,6 +25,27 @@ REFUSED = [
     "--executor=a --executor=a l", "--extra_flag= l", "--extra_flag l", "--help", "--version", "- l", "-v l",
 ]
 
+EACH_ONCE = "every option but --strategy and --extra_flag stands once at most, and each mnemonic has one --strategy"
+
+# Programs with words that are each accepted, but not together, and the rule that they break.
+BROKEN = [
+    ("worker_tool", "--retries=2", "there is one list or one --generate, and none is named"),
+    ("worker_tool", "a --retries=2 b", "there is one list or one --generate, and 2 are named"),
+    ("worker_tool", "a --generate=1", "there is one list or one --generate, and 2 are named"),
+    ("worker_tool", "--retries=1 --extra_flag=a --extra_flag=b --remote=2 --retries=2 l", "--retries stands once at most"),
+    ("journal_run", "a b c", "there is one list or one --generate, and 3 are named"),
+    ("shared_tool", "--max_workers=2", "there is one list, and none is named"),
+    ("shared_tool", "l", "there is one --max_workers=N"),
+    ("shared_tool", "--max_workers=2 --max_workers=3 l", "there is one --max_workers=N"),
+    ("spawn_tool", "a b --sandboxed=2", "there is one list, and 2 are named"),
+    ("spawn_tool", "--worker_verbose l --worker_verbose", "--worker_verbose stands once at most"),
+    ("spawn_tool", "--remote=9 --sandboxed=8 l", "--remote and --sandboxed are at most 16 together"),
+    ("spawn_tool", "--sandboxed=16 l", "--remote and --sandboxed are at most 16 together"),
+    ("spawn_tool", "--strategy=A=worker --strategy=A=remote l", EACH_ONCE),
+    ("spawn_tool", "--local_delay=1 --local_delay=2 l", EACH_ONCE),
+    ("spawn_tool", "--generate=4", 'this word isn\'t accepted: "--generate=4"'),
+]
+
 # Longer than the name of a file may be, so that it can't be read, and isn't absent.
 LONG = "n" * 300
 
@@ -46,6 +67,15 @@ def refused(words: list[str]) -> Case:
                    b"--generate="]
         compare(words, options, [it for it in options if it in ended.err])
     return Case(f"refused: {words}", played)
+
+
+def broken(program: str, words: str, rule: str) -> Case:
+    """Words that break a rule together. The line after the fault's names it."""
+    def played(programs: Programs, folder: pathlib.Path) -> None:
+        ended = run([getattr(programs, program), *words.split()], folder)
+        compare(words, (2, b"", f"{program}: words are not accepted"), (ended.status, ended.out, fault_line(ended.err)))
+        compare(words, f"  {rule}", ended.err.decode().splitlines()[1])
+    return Case(f"refused together: {program} {words}", played)
 
 
 def generated(count: int) -> Case:
@@ -117,6 +147,8 @@ def cases() -> Iterator[Case]:
         yield refused(words.split(" ") if words else [])
     for odd in [[""], ["l", ""], ["--executor=a", ""]]:
         yield refused(odd)
+    for program, words, rule in BROKEN:
+        yield broken(program, words, rule)
     for count in [1, 7, 40, 1000]:
         yield generated(count)
     yield fault("a list that isn't there", ["gone"], 5, "worker_tool: not there: gone")

@@ -6,7 +6,9 @@
 use outside_mem::MemFloor;
 use outside_real::{RealFloor, RealSink, open_standard};
 use recorded_runs::{run_recorded, run_told_recorded};
-use run_command::{Cause, OPTIONS, Program, TOGETHER, end, end_unread, tell, tell_ended, words};
+use run_command::{
+    Cause, OPTIONS, Outputs, Prints, Program, TOGETHER, end, end_unread, tell, tell_ended, words,
+};
 use std::alloc::Global;
 use std::io::{Eprint, Print};
 use std::process::ExitCode;
@@ -20,6 +22,7 @@ const PROGRAM: Program = Program {
     together: TOGETHER,
     options: OPTIONS,
     generates: true,
+    prints: Prints::ReportAndJournal,
 };
 
 fn main(rt: HostRuntime) -> ExitCode {
@@ -60,6 +63,7 @@ fn run_generated<R: Threads + Wait + Print + Eprint + Copy + Drop + Send + Sync 
             fault,
             lack,
             last_error: None,
+            outputs: Outputs::Nowhere,
         };
         tell(&rt, alloc, &PROGRAM, words, &cause);
     }

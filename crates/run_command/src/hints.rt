@@ -1,4 +1,5 @@
 // The hints that follow the line of a fault on standard error. They begin with two spaces.
+use crate::rules::broken_rule;
 use fault_cures::word_lines;
 use list_actions::ListFault;
 use plain_values::NoMemory;
@@ -7,14 +8,32 @@ use std::io;
 use worker_run::{Lack, RunFault, Stage};
 
 /// The texts about a program and its words on standard error.
+#[derive(Clone, Copy)]
 pub struct Program {
     pub name: &'static str,
-    /// The rule for all its words together.
+    /// Its rule for words together that are each accepted, apart from those that `rules` knows.
     pub together: &'static str,
     /// Its options, one per line.
     pub options: &'static str,
     /// True if --generate is one of its words.
     pub generates: bool,
+    pub prints: Prints,
+}
+
+/// The text that a program prints about a run, on standard output.
+#[derive(Clone, Copy)]
+pub enum Prints {
+    Report,
+    /// The report, and then the text of the run's journal.
+    ReportAndJournal,
+}
+
+/// The place of the outputs that a run makes.
+#[derive(Clone, Copy)]
+pub enum Outputs {
+    Files,
+    /// They don't outlast the run, which is in memory, or no run was begun.
+    Nowhere,
 }
 
 /// The reason that a run ended without its whole report.
@@ -25,15 +44,17 @@ pub struct Cause<'a, 'b> {
     pub lack: Option<Lack>,
     /// The last error of the floor.
     pub last_error: Option<&'b io::Error>,
+    pub outputs: Outputs,
 }
 
 impl<'a, 'b> Cause<'a, 'b> {
-    /// Returns a cause that consists only of the fault.
+    /// Returns the cause for a run that was not begun. It consists only of the fault.
     pub fn of(fault: &'a RunFault) -> Cause<'a, 'b> {
         Cause {
             fault,
             lack: None,
             last_error: None,
+            outputs: Outputs::Nowhere,
         }
     }
 }
@@ -73,7 +94,10 @@ pub fn lines(
                 Some(word) if !program.generates => {
                     format!(in alloc; "  this word isn't accepted: {:?}\n", word.as_str())?
                 }
-                _ => word_lines(alloc, words, program.together)?,
+                _ => {
+                    let rule = broken_rule(alloc, program, words)?;
+                    word_lines(alloc, words, rule.as_str())?
+                }
             };
             let name = program.name;
             lines.push_str(format!(in alloc; "  usage: {name} [OPTION].. LIST\n")?.as_str())?;
@@ -84,24 +108,57 @@ pub fn lines(
         (RunFault::List(ListFault::NoStrategy { .. }), _) => Ok(String::new(alloc)),
         (RunFault::List(fault), _) => Ok(format!(in alloc; "  {fault}\n")?),
         (RunFault::FloorFailed { .. }, Some(error)) => Ok(format!(in alloc; "  {error}\n")?),
-        (RunFault::NoMemory(stage), _) => stage_line(alloc, *stage, cause.lack),
+        (RunFault::NoMemory(stage), _) => stage_lines(alloc, program.prints, cause, *stage),
         _ => Ok(String::new(alloc)),
     }
 }
 
-// Returns the line that tells how far a run came that lacked memory or threads.
-fn stage_line(alloc: Global, stage: Stage, lack: Option<Lack>) -> Result<String, NoMemory> {
-    let line = match (stage, lack) {
-        (Stage::Before, Some(Lack::Threads { wanted, started })) => {
-            return Ok(format!(in alloc;
-                "  the system started {started} of {wanted} threads, so nothing was begun: look at ulimit -u and pids.max\n"
-            )?);
-        }
+// Returns the lines that tell what is left of a run that lacked memory or threads in this stage.
+fn stage_lines(
+    alloc: Global,
+    prints: Prints,
+    cause: &Cause<'_, '_>,
+    stage: Stage,
+) -> Result<String, NoMemory> {
+    if let (Stage::Before, Some(Lack::Threads { wanted, started })) = (stage, cause.lack) {
+        return Ok(format!(in alloc;
+            "  the system started {started} of {wanted} threads, so nothing was begun: look at ulimit -u, pids.max and the free memory\n"
+        )?);
+    }
+    let mut lines = String::from_str(alloc, outputs_line(stage, cause.outputs))?;
+    lines.push_str(missing_line(stage, prints))?;
+    Ok(lines)
+}
+
+// Returns the line about the outputs of a run that lacked memory in this stage.
+fn outputs_line(stage: Stage, outputs: Outputs) -> &'static str {
+    match (stage, outputs) {
         (Stage::Before, _) => "  nothing was begun\n",
-        (Stage::During, _) => {
-            "  memory ran out during the run: outputs of actions that are ok in the report are in place, the others are open\n"
+        (Stage::During, Outputs::Files) => {
+            "  memory ran out during the run: the outputs of actions that succeeded are in place, and some of others may be\n"
         }
-        (Stage::After, _) => "  the outputs are in place, and only the report is missing\n",
-    };
-    Ok(String::from_str(alloc, line)?)
+        (Stage::During, Outputs::Nowhere) => "  memory ran out during the run\n",
+        (Stage::After, Outputs::Files) => {
+            "  memory ran out after the run: the outputs of actions that succeeded are in place\n"
+        }
+        (Stage::After, Outputs::Nowhere) => "  memory ran out after the run\n",
+    }
+}
+
+// Returns the line about the texts that such a run didn't print. Nothing else is known about them than the stage, so a text
+// that may have been printed is left to what the reader sees.
+fn missing_line(stage: Stage, prints: Prints) -> &'static str {
+    match (stage, prints) {
+        (Stage::Before, _) => "",
+        (Stage::During, Prints::Report) => {
+            "  the report says which succeeded, if it could be written\n"
+        }
+        (Stage::During, Prints::ReportAndJournal) => {
+            "  the report says which succeeded, if it could be written; the journal's text is missing\n"
+        }
+        (Stage::After, Prints::Report) => "  only the report is missing\n",
+        (Stage::After, Prints::ReportAndJournal) => {
+            "  the journal's text is missing, or the report with it\n"
+        }
+    }
 }

@@ -4,7 +4,8 @@
 mod cures;
 mod hints;
 mod reasons;
+mod rules;
 mod telling;
 
-pub use hints::{Cause, OPTIONS, Program, TOGETHER};
+pub use hints::{Cause, OPTIONS, Outputs, Prints, Program, TOGETHER};
 pub use telling::{end, end_unread, tell, tell_ended, words};

@@ -107,7 +107,10 @@ impl<'a, R> Left<'a, R> {
             Cause::Frame => self.wrote(alloc, line, "wrote what is no answer"),
             Cause::Long => said(alloc, "it wrote more than an answer may have"),
             Cause::Tap => self.unread(alloc, line),
-            _ => Ok(format!(in alloc; "no answer came: {}", self.end(alloc, line)?)?),
+            _ => {
+                let end = self.end(alloc, line, "output")?;
+                Ok(format!(in alloc; "no answer came: {end}")?)
+            }
         }
     }
 
@@ -145,14 +148,18 @@ impl<'a, R> Left<'a, R> {
     }
 
     fn unwritten(&self, alloc: Global, line: u32) -> Result<String, NoMemory> {
-        let end = self.end(alloc, line)?;
-        match self
+        let Some(error) = self
             .halves(line)
             .and_then(|halves| halves.feed.last_error())
-        {
-            Some(error) => Ok(format!(in alloc; "the request couldn't be given: {error}; {end}")?),
-            None => Ok(format!(in alloc; "the request couldn't be given; {end}")?),
+        else {
+            return said(alloc, "the request couldn't be given");
+        };
+        // With any other error the process went on until it was killed for it.
+        if error.kind() != ErrorKind::BrokenPipe {
+            return Ok(format!(in alloc; "the request couldn't be given: {error}")?);
         }
+        let end = self.end(alloc, line, "input")?;
+        Ok(format!(in alloc; "the request couldn't be given: {error}; {end}")?)
     }
 
     fn unread(&self, alloc: Global, line: u32) -> Result<String, NoMemory> {
@@ -172,13 +179,13 @@ impl<'a, R> Left<'a, R> {
         Ok(format!(in alloc; "it {what}; the last that it wrote begins \"{shown}\"")?)
     }
 
-    // Returns how a line's process ended: by itself, or by the kill.
-    fn end(&self, alloc: Global, line: u32) -> Result<String, NoMemory> {
+    // Returns how a line's process ended: by itself, or by the kill because it had closed this pipe.
+    fn end(&self, alloc: Global, line: u32, closed: &str) -> Result<String, NoMemory> {
         let Some(end) = self.halves(line).and_then(|halves| halves.child.end()) else {
             return said(alloc, "how the process ended isn't known");
         };
         if !end.by_itself {
-            return said(alloc, "the process closed its output, and went on");
+            return Ok(format!(in alloc; "the process closed its {closed}, and went on")?);
         }
         match (end.status.code(), end.status.signal()) {
             (Some(code), _) => Ok(format!(in alloc; "the process ended with status {code}")?),

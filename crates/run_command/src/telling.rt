@@ -4,7 +4,7 @@ ghost use Rattle.std.specs.Process.{exit_status};
 ghost use Rattle.build_report.specs.Faults.{fault_status};
 ghost use Rattle.run_plan.specs.Sound.{Sound};
 
-use crate::hints::{Cause, Program};
+use crate::hints::{Cause, Outputs, Program};
 use crate::reasons::Left;
 use crate::{cures, hints, reasons};
 use bare_calls::LockFile;
@@ -102,6 +102,7 @@ where
             fault,
             lack,
             last_error: floor.last_error(),
+            outputs: Outputs::Files,
         };
         tell(rt, alloc, program, words, &cause);
         tell_cures(rt, alloc, words, &mut floor, fault);

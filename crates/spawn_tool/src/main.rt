@@ -4,13 +4,14 @@
 
 use outside_real::{RealFloor, RealSink, open_standard, tell_about};
 use real_spawn::run_told_strategies;
-use run_command::{Program, end_unread, tell_ended, words};
+use run_command::{Prints, Program, end_unread, tell_ended, words};
 use spawn_runs::Strategic;
 use spawn_tasks::other_words;
 use std::alloc::Global;
 use std::io::Eprint;
 use std::process::ExitCode;
 use tick_lane::ClockPacer;
+use tool_words::number_behind;
 
 const USAGE: &str = "spawn_tool [OPTION..] LIST
 
@@ -36,10 +37,14 @@ const OPTIONS: &str = "  LIST                              the path of the actio
 
 const PROGRAM: Program = Program {
     name: "spawn_tool",
-    together: "there is one list, every option but --strategy and --extra_flag stands once at most, each mnemonic has one --strategy, and --remote and --sandboxed are 16 together at most",
+    together: "every option but --strategy and --extra_flag stands once at most, and each mnemonic has one --strategy",
     options: OPTIONS,
     generates: false,
+    prints: Prints::Report,
 };
+
+/// The most executors and sandboxes together.
+const MOST_TOGETHER: u32 = 16;
 
 fn main(rt: HostRuntime) -> ExitCode {
     open_standard();
@@ -50,6 +55,10 @@ fn main(rt: HostRuntime) -> ExitCode {
     let words = match words(&rt, alloc) {
         Ok(words) => words,
         Err(error) => return end_unread(&rt, alloc, &PROGRAM, &error),
+    };
+    let program = Program {
+        together: together(&words),
+        ..PROGRAM
     };
     let floor = RealFloor::new(rt, alloc);
     let mut out = RealSink::new(rt);
@@ -62,7 +71,25 @@ fn main(rt: HostRuntime) -> ExitCode {
         tell_refused(&rt, alloc, action);
     }
     let others = other_words(alloc, &words).unwrap_or(Vec::new(alloc));
-    tell_ended(&rt, alloc, &PROGRAM, &others, ended)
+    tell_ended(&rt, alloc, &program, &others, ended)
+}
+
+// Returns the rule of this program's own options that these words break, if they break one.
+fn together(words: &[String]) -> &'static str {
+    let (remote, sandboxed) = (number(words, "--remote="), number(words, "--sandboxed="));
+    if remote.saturating_add(sandboxed) > MOST_TOGETHER {
+        "--remote and --sandboxed are at most 16 together"
+    } else {
+        PROGRAM.together
+    }
+}
+
+// Returns the number that an option gives, or 1.
+fn number(words: &[String], front: &str) -> u32 {
+    words
+        .iter()
+        .find_map(|word| number_behind(front, 1, MOST_TOGETHER, word.as_str()))
+        .unwrap_or(1)
 }
 
 // Reports that no strategy supports this action, and what can be done about it.

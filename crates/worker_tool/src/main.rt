@@ -17,7 +17,9 @@ use outside_mem::MemFloor;
 use outside_real::{RealFloor, RealSink, open_standard};
 use plain_values::NoMemory;
 use real_run::{Telling, run_told, run_told_watched};
-use run_command::{Cause, OPTIONS, Program, TOGETHER, end, end_unread, tell, tell_ended, words};
+use run_command::{
+    Cause, OPTIONS, Outputs, Prints, Program, TOGETHER, end, end_unread, tell, tell_ended, words,
+};
 use std::alloc::Global;
 use std::env::{self, Env};
 use std::io::{Eprint, IsTerminal, Print};
@@ -33,6 +35,7 @@ const PROGRAM: Program = Program {
     together: TOGETHER,
     options: OPTIONS,
     generates: true,
+    prints: Prints::Report,
 };
 
 fn main(rt: HostRuntime) -> ExitCode {
@@ -98,6 +101,7 @@ fn run_generated<R: Threads + Wait + Clock + Print + Eprint + Copy + Drop + Send
             fault,
             lack,
             last_error: None,
+            outputs: Outputs::Nowhere,
         };
         tell(&rt, alloc, &PROGRAM, words, &cause);
     }
