@@ -237,10 +237,27 @@ def several_rooms() -> list[Row]:
     return [tool("one worker, eight requests at once, a folder each", "--instances=1 boxed.json", 1000, 1000)]
 
 
+def front() -> list[Row]:
+    """Returns rows of the front: a list by worker_tool, by the front without and with watchers, and 4,000 actions that are up to date."""
+    lenthuvi = str(TOP / "tools" / "lenthuvi")
+    write_list("plain", copies(1000))
+    os.mkdir("idle")
+    os.chdir("idle")
+    write_list("list", copies(4000))
+    subprocess.run([lenthuvi, "build", "-q", "--plain"], stdout=subprocess.DEVNULL, stderr=subprocess.DEVNULL, check=False)
+    os.chdir("..")
+    return [
+        tool("the list by `worker_tool` itself", "--instances=4 plain.json", 1000, 1000),
+        Row("`lenthuvi run --plain`, four workers", (lenthuvi, "run", "-q", "-j4", "--plain", "plain.json"), 1000, outputs=1000),
+        Row("`lenthuvi run`, four workers, watched", (lenthuvi, "run", "-q", "-j4", "plain.json"), 1000, outputs=1000),
+        Row("`lenthuvi build`, 4,000 actions, nothing to do", ("/bin/sh", "-c", f"cd idle && exec {lenthuvi} build -q"), 1, unit="run"),
+    ]
+
+
 # Each group, in the order of the page. A group's rows run in turn in one folder.
 GROUPS: dict[str, Callable[[], list[Row]]] = {
     "copies": small_files, "sizes": sizes, "boxed": several_rooms, "inputs": large_inputs, "memory": memory, "lists": lists,
-    "journals": journals, "generated": in_memory, "jobs": jobs, "waiting": waiting,
+    "journals": journals, "generated": in_memory, "jobs": jobs, "waiting": waiting, "front": front,
 }
 
 # Scripts that measure something else. Each runs only if it is named, since it proves or builds first, or takes many minutes.

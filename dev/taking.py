@@ -5,7 +5,6 @@ another program. So a small starter in C starts the command, if there is a C com
 """
 from __future__ import annotations
 
-import contextlib
 import os
 import pathlib
 import shutil
@@ -67,8 +66,7 @@ def make_starter(folder: str) -> str:
 
 def take(command: Sequence[str], starter: str, reads: str = os.devnull) -> Taken:
     """Runs a command, whose output and errors go nowhere."""
-    with contextlib.ExitStack() as opened:
-        source = opened.enter_context(open(reads, "rb"))
+    with open(reads, "rb") as source:
         return take_started(command, starter, source.fileno()) if starter else take_plainly(command, source.fileno())
 
 

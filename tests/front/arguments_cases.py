@@ -24,6 +24,8 @@ class Arguments(Folder):
         self.assertIn("no action has the mnemonic Nix; there are Copy", self.front("--limit=Nix=3", status=2))
         self.assertIn("no action has the mnemonic Nix; there are Copy", self.front("--strategy=Nix=worker", status=2))
         self.assertIn("usage: lenthuvi COMMAND", self.front("--help"))
+        for words in (("watch", "--help"), ("--help", "watch"), ("watch", "--limit=5", "-h")):
+            self.assertTrue(self.front(*words).startswith("  watch [LIST]"), words)
 
     def test_own_state_is_no_output(self) -> None:
         self.worker()

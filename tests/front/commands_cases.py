@@ -68,12 +68,14 @@ class Commands(Folder):
         self.assertTrue(os.path.exists("build/a.o"))
 
     def test_one_that_cant_be_taken_leaves_itself_out(self) -> None:
-        good = {"command": f"{self.folder}/cc -c ../src/a.c -o a.o"}
-        for bad, why in (({"command": "nix-cc -c ../src/a.c -o b.o"}, "nix-cc isn't found"), ({"command": f"{self.folder}/cc ../src/a.c"}, "neither -o nor -c"),
-                         ({"command": f"{self.folder}/cc -c ../src/a.c -o /nix/a.o"}, "isn't made below this folder"),
-                         ({"command": f"{self.folder}/cc -c ../src/a.c @nix"}, "the file of further words nix can't be read"),
-                         ({"command": f"{self.folder}/cc -c b.c", "directory": "/nix"}, "isn't below this folder"),
-                         ({"arguments": [f"{self.folder}/cc", "-c", "a\nb.c"]}, "a flag file can't hold")):
+        good: dict[str, Any] = {"command": f"{self.folder}/cc -c ../src/a.c -o a.o"}
+        faults: list[tuple[dict[str, Any], str]] = [
+            ({"command": "nix-cc -c ../src/a.c -o b.o"}, "nix-cc isn't found"), ({"command": f"{self.folder}/cc ../src/a.c"}, "neither -o nor -c"),
+            ({"command": f"{self.folder}/cc -c ../src/a.c -o /nix/a.o"}, "isn't made below this folder"),
+            ({"command": f"{self.folder}/cc -c ../src/a.c @nix"}, "the file of further words nix can't be read"),
+            ({"command": f"{self.folder}/cc -c b.c", "directory": "/nix"}, "isn't below this folder"),
+            ({"arguments": [f"{self.folder}/cc", "-c", "a\nb.c"]}, "a flag file can't hold")]
+        for bad, why in faults:
             with self.subTest(why):
                 said = self.convert([bad, good])
                 self.assertIn("left out: ../src/a.c: ", said)

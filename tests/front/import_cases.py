@@ -199,7 +199,8 @@ class Guarded(Ninja):
         """Checks that outputs are right if the room is mounted at the project's path, and if the words are changed instead."""
         self.put("src/tool", "#!/bin/sh\npwd\n")
         os.chmod("src/tool", 0o755)
-        for words in ([], ["--mount=never"]):
+        ways: list[list[str]] = [[], ["--mount=never"]]
+        for words in ways:
             self.ninja(f"build here: CUSTOM_COMMAND ../src/tool ../src/a.c\n  COMMAND = {self.root}/src/tool > /dev/null && cat {self.root}/src/a.c > here\n",
                        *words)
             self.assertIn("1 action made", self.front("run", "build"))
@@ -373,7 +374,8 @@ class Compiled(Ninja):
                         f"{compiler} -g main.o l.a -o main"):
             subprocess.run(command, shell=True, cwd="build", env={"PATH": "/usr/bin:/bin"}, check=True)
         wanted = {it: pathlib.Path("build", it).read_bytes() for it in ("a.o", "main.o", "l.a", "main")}
-        for words in ([], ["--mount=never"]):
+        ways: list[list[str]] = [[], ["--mount=never"]]
+        for words in ways:
             for name in wanted:
                 os.remove(f"build/{name}")
             self.ninja(text, *words)

@@ -9,10 +9,11 @@ import dataclasses
 import json
 import pathlib
 from collections.abc import Iterator, Sequence
+from typing import Any
 
 import play
 import wire
-from play import Case, Programs, Steps, action, compare, exchange, marked, report, supports
+from play import Case, Programs, Step, Steps, action, compare, exchange, marked, report, supports
 
 PROTOC = json.loads((pathlib.Path(__file__).resolve().parent / "protoc.json").read_text(encoding="utf-8"))
 
@@ -39,15 +40,15 @@ class Answer:
         return [f"{name} {how} local=won remote=unused", *(marked(self.said) if self.said else [])]
 
 
-def of_protoc(vector: dict) -> Answer:
+def of_protoc(vector: dict[str, Any]) -> Answer:
     parts = vector["parts"]
     return Answer(wire.framed(bytes.fromhex(vector["given"])), parts.get("exit_code", 0),
                   bytes.fromhex(parts.get("output", "")), parts.get("request_id", 0), parts.get("was_cancelled", False))
 
 
-def of_value(value: dict, **how: object) -> Answer:
+def of_value(value: dict[str, Any], **how: Any) -> Answer:
     """Returns a response that Python's json writes."""
-    line = json.dumps(value, **how).encode() + b"\n"  # type: ignore[arg-type]
+    line = json.dumps(value, **how).encode() + b"\n"
     code = value.get("exitCode", value.get("exit_code", 0))
     number = value.get("requestId", value.get("request_id", 0))
     cancelled = value.get("wasCancelled", value.get("was_cancelled", False))
@@ -86,13 +87,13 @@ GOOD_LINES = [
 
 def plays_of(answers: Sequence[Answer], hear: str, bytewise: bool) -> list[Steps]:
     """Returns the parts of the processes. Each process answers until a response ends its line."""
-    plays: list[list[list[object]]] = [[]]
+    plays: list[list[Step]] = [[]]
     for it in answers:
         pieces = [it.given[at : at + 1].hex() for at in range(len(it.given))] if bytewise else [it.given.hex()]
         plays[-1] += [[hear, 1], ["give", *pieces]]
         if it.ends_its_line():
             plays.append([])
-    return plays
+    return [*plays]
 
 
 def answered(name: str, answers: Sequence[Answer], lines: bool = False, bytewise: bool = False) -> Case:
@@ -118,7 +119,7 @@ def numbered(name: str, needs: tuple[str, ...], give: list[bytes], wanted: list[
         requirements = supports(*needs, **({"requires-worker-protocol": "json"} if lines else {}))
         actions = [action(f"a{n}", outputs=[], requirements=requirements) for n in range(count)]
         hear = "hear lines" if lines else "hear"
-        plays = [[[hear, count], ["give", *(it.hex() for it in give)]]]
+        plays: list[Steps] = [[[hear, count], ["give", *(it.hex() for it in give)]]]
         ended = exchange(programs, folder, actions, ["--retries=0", "--instances=1"], t=plays)
         compare((name, give), report(*wanted, ok=ok, failed=failed), ended.out)
     return Case(name, played)
@@ -180,7 +181,7 @@ def remote(at: int) -> Case:
         given, lines, totals, output = RESULTS[at]
         frame = given if given is PARTS else wire.framed(given)
         one = action(strategy="remote", requirements={}, argv=["tool", "-v", "@f"], env={"B": "2", "A": "1"})
-        steps = [["give", wire.GREETING.hex()], ["hear", 1], ["give", frame.hex()]]
+        steps: Steps = [["give", wire.GREETING.hex()], ["hear", 1], ["give", frame.hex()]]
         ended = exchange(programs, folder, [one], ["--retries=0"], x=[steps])
         compare(given, (report(*lines, **totals), output), (ended.out, play.found(folder, "o")))
         wanted = wire.framed(wire.job(1, [b"tool", b"-v", b"@f"], [(b"f", b"flag\n")], [b"o"], [(b"A", b"1"), (b"B", b"2")]))

@@ -10,6 +10,7 @@ import select
 import socket
 import subprocess
 from collections.abc import Iterator, Mapping, Sequence
+from typing import Any
 
 import play
 import wire
@@ -149,7 +150,7 @@ def lines() -> Iterator[Row]:
                + line(arguments=["--exit=0"], requestId=None, verbosity=10, inputs=[{"path": "a", "digest": "YWJj"}], later=[1])
                + json.dumps({"arguments": ['--in=q"\u00e9\x1f\U0001f600', "--out=o"], "requestId": "-2", "sandboxDir": "s"}).encode() + b"\n"])
     digest = base64.b64encode(bytes(range(256))).decode()
-    good = [
+    good: list[dict[str, Any]] = [
         {"arguments": ["abc"], "inputs": [{"path": "f", "digest": "YWJj"}], "requestId": 7, "verbosity": 10},
         {"arguments": ["--a=\u00fc", "", "@@x"], "inputs": [{"path": "a/b", "digest": digest}, {"path": "", "digest": ""}, {"path": "c", "digest": "YWI="}],
          "requestId": 0, "cancel": False, "verbosity": 0, "sandbox_dir": "__sandbox/1"},
@@ -187,8 +188,8 @@ def fed(programs: Programs, folder: pathlib.Path, row: Row) -> play.Ended:
         return run([programs.demo_tool, *row.words.split(" ")] if row.words else [programs.demo_tool], folder, b"".join(row.pieces))
     mine, its = socket.socketpair()
     with mine, its:
-        program = [programs.demo_tool, *row.words.split(" ")]
-        with subprocess.Popen(program, cwd=folder, stdin=its, stdout=subprocess.PIPE, stderr=subprocess.PIPE) as demo:
+        program = [os.fspath(programs.demo_tool), *row.words.split(" ")]
+        with subprocess.Popen(program, cwd=folder, stdin=its.fileno(), stdout=subprocess.PIPE, stderr=subprocess.PIPE) as demo:
             its.close()
             for piece in row.pieces:
                 mine.sendall(piece)

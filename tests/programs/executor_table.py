@@ -72,7 +72,7 @@ def one_after_another(programs: Programs, folder: pathlib.Path) -> None:
         place = folder / str(bytewise)
         room = rooms(place)
         mine, its = socket.socketpair()
-        with subprocess.Popen([programs.remote_exec, "--serve"], cwd=room, stdin=its, stdout=subprocess.PIPE, stderr=subprocess.PIPE) as it:
+        with subprocess.Popen([os.fspath(programs.remote_exec), "--serve"], cwd=room, stdin=its.fileno(), stdout=subprocess.PIPE, stderr=subprocess.PIPE) as it:
             its.close()
             for at in range(len(given)) if bytewise else [0]:
                 mine.sendall(given[at : at + 1] if bytewise else given)
@@ -120,7 +120,8 @@ def given_up(programs: Programs, folder: pathlib.Path) -> None:
 def streams(programs: Programs, folder: pathlib.Path) -> None:
     """Checks invalid arguments, an input that ends inside a job or can't be read, and an output that is full."""
     room = rooms(folder)
-    for words in [[], ["--server"], ["--serve", "--serve"], [""]]:
+    wrong: list[list[str]] = [[], ["--server"], ["--serve", "--serve"], [""]]
+    for words in wrong:
         ended = run([programs.remote_exec, *words], room)
         compare(words, (2, b"", b"remote_exec: words are not accepted\n"), (ended.status, ended.out, ended.err))
     compare("no job", (0, GREETING), (lambda it: (it.status, it.out))(run([programs.remote_exec, "--serve"], room)))
@@ -173,8 +174,8 @@ def told(ended: play.Ended) -> tuple[int, bytes]:
 
 def output_gone(programs: Programs, folder: pathlib.Path) -> None:
     """Checks that it ends if nobody reads past the greeting, even though its input is open."""
-    words, given = [programs.remote_exec, "--serve"], framed(job(1, [*SHELL, b":"]))
-    compare(given, 6, play.ended_unheard(words, rooms(folder), len(GREETING), given))
+    given = framed(job(1, [*SHELL, b":"]))
+    compare(given, 6, play.ended_unheard([programs.remote_exec, "--serve"], rooms(folder), len(GREETING), given))
 
 
 def cases() -> Iterator[Case]:

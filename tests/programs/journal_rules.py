@@ -204,7 +204,8 @@ class History:
         return Attempt(action, branch, self.limit) in self.ended
 
     def group_of(self, action: int, branch: str) -> int | None:
-        return self.actions[action][3 if branch == "Local" else 4]
+        group: int | None = self.actions[action][3 if branch == "Local" else 4]
+        return group
 
     # ---- actions
 
@@ -249,7 +250,7 @@ class History:
     # ---- lines
 
     def kind_of(self, berth: int) -> str:
-        return self.groups[self.seats[berth]][0][0]
+        return str(self.groups[self.seats[berth]][0][0])
 
     def last_line(self, berth: int) -> int | None:
         return next((at for at in range(len(self.lines) - 1, -1, -1) if self.lines[at].lane // 2 == berth), None)
@@ -399,21 +400,21 @@ class History:
         if newest is None:
             return None
         if newest[2][0] == "Line":
-            return newest[2][1]
-        return newest[1][1] if newest[1][0] == "Answer" else None
+            return int(newest[2][1])
+        return int(newest[1][1]) if newest[1][0] == "Answer" else None
 
     def is_of_proxy(self, lane: int, call: Call, newest: Entry | None) -> bool:
-        told = newest[2] if newest is not None else ["Noted"]
+        told: Reply = newest[2] if newest is not None else ["Noted"]
         is_owing = told[0] in ("Launch", "Send", "Cancel", "Gather", "Kill", "Stop") or self.owed_commit(newest) is not None
         if call[0] == "Ask":
             return not is_owing
         if call[0] == "Launched":
-            return told[0] == "Launch" and call[1] == told[1]
+            return told[0] == "Launch" and bool(call[1] == told[1])
         if call[0] == "Wrote":
             is_said = told[0] == "Send" or (told[0] == "Cancel" and call[3][0] in ("Done", "FeedFault"))
             return is_said and call[1:3] == told[1:3]
         if call[0] == "Killed":
-            return told[0] == "Kill" and call[1] == told[1]
+            return told[0] == "Kill" and bool(call[1] == told[1])
         if call[0] == "Claim":
             return told[0] == "Gather" and call[1:4] == told[3:6] and self.may_find(lane // 2, told, call[4])
         return self.is_owed_commit(call, newest)
@@ -427,7 +428,7 @@ class History:
         if found[0] == "Files":
             return len(found[1]) == outputs
         if found[0] == "Missing":
-            return found[1] < outputs
+            return bool(found[1] < outputs)
         return found[0] == "RoomFault" and self.kind_of(berth) != "Remote"
 
     @staticmethod
@@ -435,7 +436,7 @@ class History:
         """Returns the action and the branch that a lane must commit, if any."""
         if newest is None or newest[1][0] != "Claim" or newest[2][0] != "Granted" or newest[1][4][0] != "Files":
             return None
-        return newest[1][1:3]
+        return list(newest[1][1:3])
 
     def is_owed_commit(self, call: Call, newest: Entry | None) -> bool:
         return call[0] == "Committed" and self.owed_commit(newest) == call[1:3]

@@ -7,6 +7,9 @@ from __future__ import annotations
 import json
 import math
 from collections.abc import Callable
+from typing import Any, TypeVar
+
+T = TypeVar("T")
 
 MOST_BYTES = 33_554_432
 MOST_ACTIONS = 4_096
@@ -86,15 +89,15 @@ class Action:
     def __init__(self, number: int, value: object) -> None:
         self.number = number
         if not isinstance(value, dict):
-            self.refuse("WrongKind", f"actions[{number}]: ")
-        self.value = value
+            raise Refused("WrongKind", f"actions[{number}]: ", number)
+        self.value: dict[str, Any] = value
         self.name = self.take("name", str, self.check_name)
         self.mnemonic = self.take("mnemonic", str, lambda it: self.check(bool(it), "WrongKind", "mnemonic"))
         self.argv = self.take("argv", list, self.check_argv)
         self.env = self.take("env", dict, lambda it: self.check_texts("env", list(it.values()), 256, "variables"))
-        self.tools = self.take("tools", list, lambda it: self.check_paths("tools", it, 256, "tools"))
-        self.inputs = self.take("inputs", list, lambda it: self.check_paths("inputs", it, 4096, "inputs"))
-        self.outputs = self.take("outputs", list, lambda it: self.check_paths("outputs", it, 256, "outputs"))
+        self.tools: list[str] = self.take("tools", list, lambda it: self.check_paths("tools", it, 256, "tools"))
+        self.inputs: list[str] = self.take("inputs", list, lambda it: self.check_paths("inputs", it, 4096, "inputs"))
+        self.outputs: list[str] = self.take("outputs", list, lambda it: self.check_paths("outputs", it, 256, "outputs"))
         self.requirements = self.take("requirements", dict, self.check_requirements)
         self.strategy = self.take("strategy", str, self.check_strategy, "worker")
         if self.strategy != "remote" and not any(is_flag_file(word) for word in self.argv[1:]):
@@ -107,10 +110,10 @@ class Action:
         if not holds:
             self.refuse(fault, f"actions[{self.number}].{key}: ")
 
-    def take(self, key: str, kind: type, check: Callable, default: object = None):
+    def take(self, key: str, kind: type[T], check: Callable[[T], None], default: T | None = None) -> T:
         if key not in self.value:
             self.check(key not in NEEDED, "MissingKey", key)
-            value = kind() if default is None else default
+            value: T = kind() if default is None else default
         else:
             value = self.value[key]
             self.check(isinstance(value, kind), "WrongKind", key)
@@ -121,23 +124,23 @@ class Action:
         plain = all(ord(letter) > 32 and not 127 <= ord(letter) < 160 for letter in name)
         self.check(0 < len(name.encode()) <= 256 and plain, "BadName", "name")
 
-    def check_texts(self, key: str, texts: list, most: int, many: str) -> None:
+    def check_texts(self, key: str, texts: list[str], most: int, many: str) -> None:
         self.check(all(isinstance(it, str) for it in texts), "WrongKind", key)
         if len(texts) > most:
             raise Refused("TooMany", f"{len(texts)} {many}")
 
-    def check_argv(self, argv: list) -> None:
+    def check_argv(self, argv: list[str]) -> None:
         self.check(bool(argv), "WrongKind", "argv")
         self.check_texts("argv", argv, 1024, "words")
         self.check(bool(argv[0]), "WrongKind", "argv")
 
-    def check_paths(self, key: str, paths: list, most: int, many: str) -> None:
+    def check_paths(self, key: str, paths: list[str], most: int, many: str) -> None:
         self.check_texts(key, paths, most, many)
         for path in paths:
             if said := path_fault(path):
                 self.refuse("BadPath", said)
 
-    def check_requirements(self, given: dict) -> None:
+    def check_requirements(self, given: dict[str, str]) -> None:
         self.check_texts("requirements", list(given.values()), 64, "requirements")
         protocol = given.get("requires-worker-protocol", "proto")
         fits = protocol in ("proto", "json") and given.get("worker-key-mnemonic", "x")

@@ -71,8 +71,8 @@ def limits() -> Iterator[tuple[str, bytes]]:
             yield f"{count} {key}", f'{{"actions":[{FIRST},"{key}":{value}}}]}}'.encode()
     for key, most in [("env", 256), ("requirements", 64)]:
         for count in (most, most + 1):
-            value = texts(count - 1) | {"supports-workers": "1"}
-            yield f"{count} {key}", f'{{"actions":[{FIRST},"{key}":{json.dumps(value)}}}]}}'.encode()
+            given = texts(count - 1) | {"supports-workers": "1"}
+            yield f"{count} {key}", f'{{"actions":[{FIRST},"{key}":{json.dumps(given)}}}]}}'.encode()
     for count in (256, 257):
         yield f"a name of {count} bytes", f'{{"actions":[{FIRST},"name":"{"n" * count}"}}]}}'.encode()
     for count in (48, 49):

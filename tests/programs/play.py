@@ -88,9 +88,9 @@ def found(folder: pathlib.Path, path: str) -> bytes | None:
 def run(words: Sequence[str | bytes | pathlib.Path], folder: pathlib.Path, given: bytes = b"", stdin: int | None = None,
         stdout: int | None = None) -> Ended:
     """Runs a program in a folder. If it takes too long, kills it and the processes of its group."""
-    source = {"stdin": subprocess.PIPE if stdin is None else stdin}
+    source = subprocess.PIPE if stdin is None else stdin
     out = subprocess.PIPE if stdout is None else stdout
-    program = subprocess.Popen(words, cwd=folder, stdout=out, stderr=subprocess.PIPE, start_new_session=True, **source)
+    program = subprocess.Popen(words, cwd=folder, stdin=source, stdout=out, stderr=subprocess.PIPE, start_new_session=True)
     try:
         told, said = program.communicate(given if stdin is None else None, timeout=MOST_SECONDS)
     except subprocess.TimeoutExpired:
@@ -163,7 +163,8 @@ def json_list(*actions: Mapping[str, object]) -> bytes:
 
 
 # The steps of a played process, in the form that `player.py` reads.
-Steps = Sequence[Sequence[object]]
+Step = Sequence[object]
+Steps = Sequence[Step]
 
 
 @dataclasses.dataclass(frozen=True)
@@ -175,7 +176,7 @@ class Heard:
     given: bytes
 
 
-def made_player() -> tempfile.TemporaryDirectory:
+def made_player() -> tempfile.TemporaryDirectory[str]:
     """Returns a folder that contains the player as a program.
 
     The program is written once, before any case begins. The system refuses to start a program that is open for writing,
@@ -199,9 +200,14 @@ def put_player(folder: pathlib.Path, name: str, plays: Iterable[Steps]) -> None:
     (folder / f"{place.name}.plays").write_text(json.dumps(list(plays)), encoding="utf-8")
 
 
+def hear_and_give(answer: bytes) -> Steps:
+    """Returns the steps that read a request and give this answer."""
+    return [["hear", 1], ["give", answer.hex()]]
+
+
 def heard(folder: pathlib.Path, name: str) -> list[Heard]:
     """Returns what each process of this program was started with and read, in the order of their starts."""
-    out = []
+    out: list[Heard] = []
     while (place := folder / f"{name}.{len(out)}").is_dir():
         start = json.loads((place / "start").read_text(encoding="utf-8")) if (place / "start").exists() else [[], {}]
         out.append(Heard(start[0], start[1], found(place, "heard") or b""))
@@ -237,7 +243,7 @@ MAKING = threading.Lock()
 
 
 @functools.cache
-def folder_of(links: tuple[tuple[str, pathlib.Path], ...]) -> tempfile.TemporaryDirectory:
+def folder_of(links: tuple[tuple[str, pathlib.Path], ...]) -> tempfile.TemporaryDirectory[str]:
     folder = tempfile.TemporaryDirectory()
     for name, program in links:
         copy(program, pathlib.Path(folder.name), name)

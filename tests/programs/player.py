@@ -80,24 +80,24 @@ def wait(name: str) -> None:
         time.sleep(0.002)
 
 
-def play(step: list, ear: Ear) -> None:
+def play(step: list[str | int], ear: Ear) -> None:
     kind, *parts = step
     if kind == "hear":
-        for _ in range(parts[0]):
+        for _ in range(int(parts[0])):
             ear.frame()
     elif kind == "hear lines":
-        for _ in range(parts[0]):
+        for _ in range(int(parts[0])):
             ear.line()
     elif kind == "give":
         for piece in parts:
-            os.write(1, bytes.fromhex(piece))
+            os.write(1, bytes.fromhex(str(piece)))
     elif kind == "leave":
-        leave(*parts)
+        leave(*map(str, parts))
     elif kind == "raise":
         open(f"{TOP}/raised.{parts[0]}", "wb").close()
     elif kind == "await":
         for name in parts:
-            wait(name)
+            wait(str(name))
     elif kind == "end":
         sys.exit(0)
     else:

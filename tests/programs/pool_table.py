@@ -17,7 +17,7 @@ from wire import GREETING, framed, job, result
 # The arguments of the command, and the number of jobs that then run at once.
 SIZES = [(["--serve"], 8), (["--serve", "--jobs=2"], 2), (["--serve", "--jobs=64"], 64)]
 
-WRONG_WORDS = [
+WRONG_WORDS: list[list[str]] = [
     [], [""], ["--server"], ["--serve", "--serve"], ["--jobs=8"], ["--jobs=8", "--serve"], ["--serve", "--jobs=8", "--jobs=8"],
     *(["--serve", f"--jobs={it}"] for it in ["", "0", "00", "65", "99", "008", "+8", "-1", " 8", "8 ", "x", "8x", "\u0663"]),
 ]
@@ -188,8 +188,8 @@ def streams(programs: Programs, folder: pathlib.Path) -> None:
 
 def output_gone(programs: Programs, folder: pathlib.Path) -> None:
     """Checks that it ends if nobody reads past the greeting, even though its input is open."""
-    words, given = [programs.job_pool, "--serve"], framed(job(1, [*SHELL, b":"]))
-    compare(given, 6, play.ended_unheard(words, rooms(folder), len(GREETING), given))
+    given = framed(job(1, [*SHELL, b":"]))
+    compare(given, 6, play.ended_unheard([programs.job_pool, "--serve"], rooms(folder), len(GREETING), given))
 
 
 def cases() -> Iterator[Case]:

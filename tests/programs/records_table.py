@@ -93,7 +93,8 @@ def changed(number: int) -> Case:
 def slimmed(programs: Programs, folder: pathlib.Path) -> None:
     """Checks the journal without its contents. The report precedes it."""
     given = run([programs.journal_run, "--generate=20"], folder).out
-    for words in ([], ["--contents"]):
+    ways: list[list[str]] = [[], ["--contents"]]
+    for words in ways:
         slim = run([TOOLS / "journal-slim", *words], folder, given=given)
         status, line = checked(programs, folder, slim.out)
         compare(words, (0, True), (status, line.startswith(b"legal actions=20 ")))
@@ -103,7 +104,8 @@ def slimmed(programs: Programs, folder: pathlib.Path) -> None:
 def drawn(programs: Programs, folder: pathlib.Path) -> None:
     """Checks that the page, the picture and the trace of a journal can be made."""
     given = run([programs.journal_run, "--generate=20"], folder).out
-    for words, begin in (([], b"<!DOCTYPE html>"), (["--svg"], b"<svg "), (["--trace"], b'{"traceEvents":[')):
+    ways: list[tuple[list[str], bytes]] = [([], b"<!DOCTYPE html>"), (["--svg"], b"<svg "), (["--trace"], b'{"traceEvents":[')]
+    for words, begin in ways:
         ended = run([TOOLS / "journal-picture", *words], folder, given=given)
         compare(words, (0, begin, b""), (ended.status, ended.out[: len(begin)], ended.err))
 
@@ -142,6 +144,7 @@ def cut_off(programs: Programs, folder: pathlib.Path) -> None:
     """Stops reading within the text. The program reports a fault, and the part that was read is a prefix."""
     run_words = [str(programs.journal_run), "--generate=1000"]
     with subprocess.Popen(run_words, cwd=folder, stdout=subprocess.PIPE, stderr=subprocess.PIPE) as program:
+        assert program.stdout is not None and program.stderr is not None
         begin = program.stdout.read(100_000)
         program.stdout.close()
         said = program.stderr.read()

@@ -9,7 +9,7 @@ from collections.abc import Iterator, Mapping, Sequence
 
 import play
 import wire
-from play import Case, Programs, action, compare, exchange, fault_line, heard, report, supports
+from play import Case, Programs, Step, Steps, action, compare, exchange, fault_line, heard, report, supports
 
 LOCAL = "ok local local=won remote=unused"
 
@@ -21,7 +21,7 @@ def digest(content: bytes) -> bytes:
 FLAG = (b"f", digest(b"flag\n"))
 
 # A worker's features, the strategy, and if its requests are numbered and have their own folders.
-MODES = [
+MODES: list[tuple[tuple[str, ...], str, bool, bool]] = [
     ((), "worker", False, False), (("multiplex-workers",), "worker", True, False),
     (("multiplex-sandboxing",), "worker", False, False), (("multiplex-workers", "multiplex-sandboxing"), "worker", True, True),
     (("multiplex-workers",), "dynamic", False, False), (("multiplex-sandboxing",), "dynamic", False, False),
@@ -36,7 +36,7 @@ def modes(needs: Sequence[str], strategy: str, numbered: bool, boxed: bool, line
         one = action(requirements=requirements, strategy=strategy)
         room, number = ("__sandbox/1" if boxed else ""), int(numbered)
         answer = wire.line(requestId=number) if lines else wire.framed(wire.response(number))
-        steps = [["hear lines" if lines else "hear", 1], ["leave", f"{room}/o" if room else "o", "made"], ["give", answer.hex()]]
+        steps: Steps = [["hear lines" if lines else "hear", 1], ["leave", f"{room}/o" if room else "o", "made"], ["give", answer.hex()]]
         # If the action races an executor, the executor waits for requests that never come.
         ended = exchange(programs, folder, [one], ["--retries=0", "--worker_verbose"], t=[steps], x=[[["hear", 9]]])
         wanted = report(f"a ok local local=won remote={'unused' if strategy == 'worker' else 'lost'}", ok=1)
@@ -59,7 +59,7 @@ FILES = {
 }
 
 # The argument words, and the words of the request, or the fault.
-EXPANDED = [
+EXPANDED: list[tuple[list[str], list[str] | str]] = [
     (["@p", "--flagfile=q", "@@x"], ["abc", "--flagfile=q", "@@x"]), (["@@p"], ["@@p"]), (["@d//q"], ["@d//q"]),
     (["@d/q"], ["-x", "@"]), (["@lines"], ["a", "", " b \r", "c\rd"]), (["@tail"], ["a", "b\r"]), (["@none"], []),
     (["@nest"], ["x", "abc", "@@p", "@gone//p", "y"]), (["@p", "@p"], ["abc", "abc"]), (["-flagfile=q", "@p"], ["-flagfile=q", "abc"]),
@@ -98,7 +98,7 @@ def chain(programs: Programs, folder: pathlib.Path) -> None:
     """An action reads what an earlier one made, which its request names with its digest; the room has no more than inputs."""
     made = b"made"
     actions = [action("a", outputs=["d/o"]), action("b", inputs=["d/o", "g", "f", "g"], outputs=["q"])]
-    steps = [["hear", 1], ["leave", "d/o", "made"], ["leave", "junk", "x"], ["give", "00"], ["hear", 1], ["leave", "q", "b"], ["give", "00"]]
+    steps: Steps = [["hear", 1], ["leave", "d/o", "made"], ["leave", "junk", "x"], ["give", "00"], ["hear", 1], ["leave", "q", "b"], ["give", "00"]]
     ended = exchange(programs, folder, actions, ["--instances=1"], {"g": b"\0\xff"}, t=[steps])
     compare("two actions", report(f"a {LOCAL}", f"b {LOCAL}", ok=2), ended.out)
     second = [(b"d/o", digest(made)), (b"g", digest(b"\0\xff")), FLAG, (b"g", digest(b"\0\xff"))]
@@ -132,10 +132,10 @@ def cancelled(programs: Programs, folder: pathlib.Path) -> None:
     """Checks that a request gets a cancel if the executor won its action. The next one is sent after the response."""
     needs = supports("worker-cancellation")
     actions = [action("a", requirements=needs, strategy="dynamic"), action("b", outputs=["q"], requirements=needs, inputs=["f", "o"])]
-    worker = [["hear", 1], ["raise", "asked"], ["hear", 1], ["give", wire.framed(wire.response(cancelled=True)).hex()],
+    worker: Steps = [["hear", 1], ["raise", "asked"], ["hear", 1], ["give", wire.framed(wire.response(cancelled=True)).hex()],
               ["hear", 1], ["leave", "q", "b"], ["give", "00"]]
     won = wire.framed(wire.result(1, files=[(b"o", b"x")]))
-    executor = [["give", wire.GREETING.hex()], ["hear", 1], ["await", "asked"], ["give", won.hex()]]
+    executor: Steps = [["give", wire.GREETING.hex()], ["hear", 1], ["await", "asked"], ["give", won.hex()]]
     ended = exchange(programs, folder, actions, ["--retries=0", "--instances=1"], t=[worker], x=[executor])
     compare("a race", report("a ok remote local=lost remote=won", f"b {LOCAL}", ok=2), ended.out)
     wanted = [wire.request(0, [b"flag"], [FLAG]), wire.request(0, cancel=True),
@@ -147,10 +147,10 @@ def cancelled_in_lines(programs: Programs, folder: pathlib.Path) -> None:
     """Checks the same with numbers and lines. The losing request's number is cancelled."""
     needs = supports("worker-cancellation", "multiplex-workers", "multiplex-sandboxing", **{"requires-worker-protocol": "json"})
     actions = [action("a", requirements=needs), action("b", outputs=["q"], requirements=needs, strategy="dynamic")]
-    worker = [["hear lines", 2], ["raise", "asked"], ["hear lines", 1], ["leave", "__sandbox/1/o", "a"],
+    worker: Steps = [["hear lines", 2], ["raise", "asked"], ["hear lines", 1], ["leave", "__sandbox/1/o", "a"],
               ["give", wire.line(requestId=2, wasCancelled=True).hex(), wire.line(requestId=1).hex()]]
     won = wire.framed(wire.result(1, files=[(b"q", b"x")]))
-    executor = [["give", wire.GREETING.hex()], ["hear", 1], ["await", "asked"], ["give", won.hex()]]
+    executor: Steps = [["give", wire.GREETING.hex()], ["hear", 1], ["await", "asked"], ["give", won.hex()]]
     ended = exchange(programs, folder, actions, ["--retries=0", "--instances=1"], t=[worker], x=[executor])
     compare("a race", report(f"a {LOCAL}", "b ok remote local=lost remote=won", ok=2), ended.out)
     compare("the cancel", wire.line(requestId=2, cancel=True), heard(folder, "t")[0].given.splitlines(keepends=True)[2])
@@ -161,11 +161,11 @@ def cancelled_job(programs: Programs, folder: pathlib.Path) -> None:
     for version, asked in [(2, True), (0, False)]:
         place = folder / str(version)
         actions = [action("a", strategy="dynamic"), action("b", outputs=["q"], strategy="remote", inputs=["f", "o"])]
-        worker = [["hear", 1], ["await", "sent"], ["leave", "o", "x"], ["give", "00"]]
-        late = [["give", wire.framed(wire.result(1, cancelled=True)).hex()]] if asked else []
-        greeting = [["give", wire.GREETING.hex()]] if asked else []
-        done = ["give", wire.framed(wire.result(2, files=[(b"q", b"y")])).hex()]
-        executor = [*greeting, ["hear", 1], ["raise", "sent"], *([["hear", 1]] if asked else []), *late, ["hear", 1], done]
+        worker: Steps = [["hear", 1], ["await", "sent"], ["leave", "o", "x"], ["give", "00"]]
+        late: Steps = [["give", wire.framed(wire.result(1, cancelled=True)).hex()]] if asked else []
+        greeting: Steps = [["give", wire.GREETING.hex()]] if asked else []
+        done: Step = ["give", wire.framed(wire.result(2, files=[(b"q", b"y")])).hex()]
+        executor: Steps = [*greeting, ["hear", 1], ["raise", "sent"], *([["hear", 1]] if asked else []), *late, ["hear", 1], done]
         ended = exchange(programs, place, actions, ["--retries=0"], t=[worker], x=[executor])
         wanted = report("a ok local local=won remote=lost", "b ok remote local=unused remote=won", ok=2)
         compare(("greeting", version), wanted, ended.out)

@@ -8,11 +8,11 @@ from collections.abc import Callable, Iterator, Mapping, Sequence
 
 import play
 import wire
-from play import Case, Programs, Steps, action, compare, exchange, heard, report, supports
+from play import Case, Programs, Step, Steps, action, compare, exchange, heard, report, supports
 
 LOCAL = "ok local local=won remote=unused"
 OK = wire.framed(wire.response())
-GREET = ["give", wire.GREETING.hex()]
+GREET: Step = ["give", wire.GREETING.hex()]
 WON = ["give", wire.framed(wire.result(1, files=[(b"o", b"x")])).hex()]
 
 
@@ -29,7 +29,7 @@ def played(name: str, actions: Sequence[Mapping[str, object]], wanted: bytes, wo
     If a branch's fate depends on which lane is first, `others` lists the other fates that it may have.
     """
     def case(programs: Programs, folder: pathlib.Path) -> None:
-        ended = exchange(programs, folder, actions, words, **players)
+        ended = exchange(programs, folder, actions, words, None, **players)
         status = 0 if f"ok={len(actions)} ".encode() in wanted else 1
         compare((name, words), (status, wanted), (ended.status, with_fate(ended.out, wanted, others)))
         play.no_fault(ended)
@@ -54,10 +54,10 @@ def workers() -> Iterator[Case]:
     both = report(f"a {LOCAL}", f"b {LOCAL}", ok=2)
     yield played("one worker for two actions", two, both, count=1, files={"o": b"made", "q": b"made"}, t=[[*serve(), *serve("q")]])
     # No request belongs to the second response. It breaks the line, but the first response counts.
-    twice = [["hear", 1], ["leave", "o", "made"], ["give", (OK + OK).hex()]]
+    twice: Steps = [["hear", 1], ["leave", "o", "made"], ["give", (OK + OK).hex()]]
     yield played("a worker answers twice", two[:1], report(f"a {LOCAL}", ok=1), count=1, files={"o": b"made"}, t=[twice])
     yield played("a worker dies before its answer, and after it", two, both, count=3,
-                 t=[[["hear", 1], ["end"]], [*serve(), ["end"]], serve("q"), serve("q")][:3])
+                 t=[[["hear", 1], ["end"]], [*serve(), ["end"]], serve("q")])
     yield played("a worker dies at each attempt", [action()], report("a broken local=dropped:died:3 remote=unused", broken=1),
                  ["--retries=2"], count=3, files={"o": None}, t=[[["hear", 1], ["end"]]] * 3)
     yield played("a worker ends inside an answer", [action()], report("a broken local=dropped:died:1 remote=unused", broken=1),
@@ -94,7 +94,7 @@ def several() -> Iterator[Case]:
 def races() -> Iterator[Case]:
     """Yields runs in which a worker and the executor race for an action."""
     one = [action(strategy="dynamic")]
-    dies = [["hear", 1], ["end"]]
+    dies: Steps = [["hear", 1], ["end"]]
     # The losing branch may have ended earlier by itself.
     yield played("the worker dies twice, and the executor wins", one, report("a ok remote local=dropped:died:2 remote=won", ok=1),
                  files={"o": b"x"}, others=["local=lost", "local=idle"],
@@ -103,20 +103,20 @@ def races() -> Iterator[Case]:
                  files={"o": b"x"}, others=["local=lost", "local=idle"], x=[[GREET, ["hear", 1], WON]])
     yield played("the executor can't be started, and the worker wins", one, report("a ok local local=won remote=dropped:launch:2", ok=1),
                  ["--executor=gone"], files={"o": b"made"}, others=["remote=lost", "remote=idle"], t=[serve()])
-    wrong = ["give", wire.framed(wire.result(1, 3, b"no")).hex()]
+    wrong: Step = ["give", wire.framed(wire.result(1, 3, b"no")).hex()]
     yield played("the executor's exit code counts where it is first", one,
                  report("a failed remote 3 local=dropped:launch:2 remote=won", "  | no", failed=1), others=["local=lost", "local=idle"],
                  x=[[GREET, ["hear", 1], wrong]])
-    refused = ["give", wire.framed(wire.result(1, refusal=b"cannot start")).hex()]
-    again = ["give", wire.framed(wire.result(2, refusal=b"cannot start")).hex()]
+    refused: Step = ["give", wire.framed(wire.result(1, refusal=b"cannot start")).hex()]
+    again: Step = ["give", wire.framed(wire.result(2, refusal=b"cannot start")).hex()]
     yield played("the executor refuses twice, and the worker wins", one,
                  report("a ok local local=won remote=dropped:refused:2", ok=1), files={"o": b"made"}, others=["remote=lost"],
                  t=[[["hear", 1], ["await", "refused"], ["leave", "o", "made"], ["give", OK.hex()]]],
                  x=[[GREET, ["hear", 1], refused, ["hear", 1], again, ["raise", "refused"]]])
     # Both answer before the program reads either answer. Exactly one of them is committed.
     def both(programs: Programs, folder: pathlib.Path) -> None:
-        worker = [["hear", 1], ["raise", "worker"], ["await", "executor"], ["leave", "o", "made"], ["give", OK.hex()]]
-        executor = [GREET, ["hear", 1], ["raise", "executor"], ["await", "worker"], WON]
+        worker: Steps = [["hear", 1], ["raise", "worker"], ["await", "executor"], ["leave", "o", "made"], ["give", OK.hex()]]
+        executor: Steps = [GREET, ["hear", 1], ["raise", "executor"], ["await", "worker"], WON]
         ended = exchange(programs, folder, one, ["--retries=0"], t=[worker], x=[executor])
         got = (ended.out, play.found(folder, "o"))
         wanted = [(report("a ok local local=won remote=lost", ok=1), b"made"), (report("a ok remote local=lost remote=won", ok=1), b"x")]
@@ -131,7 +131,7 @@ def races() -> Iterator[Case]:
 def keys() -> Iterator[Case]:
     """Yields cases for the rule that two actions share a worker exactly if their keys are equal."""
     same = [action("a", outputs=[]), action("b", outputs=[])]
-    rows = [
+    rows: list[tuple[str, dict[str, object], bool]] = [
         ("equal keys", {}, True), ("the environment", {"env": {"K": "1"}}, False), ("the mnemonic", {"mnemonic": "U"}, False),
         ("a start-up word", {"argv": ["t", "-v", "@f"]}, False), ("a request word", {"argv": ["t", "@f", "--flagfile=x"]}, True),
         ("the tools", {"tools": ["f"]}, False), ("the mnemonic in the key", {"mnemonic": "U", "requirements": supports(**{"worker-key-mnemonic": "T"})}, True),
@@ -151,10 +151,10 @@ def sharing(two: Sequence[Mapping[str, object]], shared: bool) -> Callable[[Prog
     """
     def case(programs: Programs, folder: pathlib.Path) -> None:
         has_several = "supports-multiplex-workers" in json.dumps(two[1])
-        plays = {"t": [[["hear", 1], ["give", OK.hex()]] * 2] * 2}
+        plays: dict[str, list[Steps]] = {"t": [[["hear", 1], ["give", OK.hex()]] * 2] * 2}
         if has_several:
             plays["u"] = [[["hear", 1], ["give", wire.framed(wire.response(1)).hex()]]]
-        actions = [two[0], {**two[1], "argv": ["u", "@f"]} if has_several else two[1]]
+        actions: list[Mapping[str, object]] = [two[0], {**two[1], "argv": ["u", "@f"]} if has_several else two[1]]
         ended = exchange(programs, folder, actions, ["--instances=1", "--retries=0"], {"g": b""}, **plays)
         compare(two, report(f"a {LOCAL}", f"b {LOCAL}", ok=2), ended.out)
         compare((two, "processes"), 1 if shared else 2, len(heard(folder, "t")) + len(heard(folder, "u")))

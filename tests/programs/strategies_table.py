@@ -13,7 +13,7 @@ import play
 import wire
 from play import Case, Ended, Programs, Wrong, action, compare, exchange, fault_line, heard, report, run
 
-ACCEPTED = [
+ACCEPTED: list[str] = [
     "l", "--strategy=T=worker l", "l --strategy=T=dynamic,remote,sandboxed,worker", "--strategy=T=worker --strategy=U=worker l",
     "--strategy=T=worker --strategy=t=remote l", "--spawn_strategy=remote l", "--sandboxed=1 --remote=0015 l",
     "--sandboxed=15 l", "--sandboxed=12 --remote=4 l", "--sandbox_executor=--serve l", "--sandbox_executor=a=b l",
@@ -21,7 +21,7 @@ ACCEPTED = [
     "--instances=48 --retries=9 --worker_verbose --executor=e --extra_flag=a --extra_flag=a l",
 ]
 
-REFUSED = [
+REFUSED: list[str] = [
     "", "--strategy=T=worker", "l m", "l --generate=4", "--generate=4", "--strategy l", "--strategy= l", "--strategy=T l",
     "--strategy=T= l", "--strategy==worker l", "--strategy=T=fast l", "--strategy=T=Worker l", "--strategy=T=worker, l",
     "--strategy=T=,worker l", "--strategy=T=worker,worker l", "--strategy=T=worker,remote,worker l", "--strategy=T=worker;remote l",
@@ -35,7 +35,7 @@ REFUSED = [
 ]
 
 # Arguments that give a list of strategies for a mnemonic, and for all other mnemonics.
-CHOICES = [
+CHOICES: list[list[str]] = [
     [], ["--strategy=T=worker"], ["--strategy=T=worker,sandboxed"], ["--strategy=T=sandboxed,worker"], ["--strategy=T=remote"],
     ["--strategy=U=remote"], ["--spawn_strategy=dynamic"], ["--spawn_strategy=dynamic,remote"],
     ["--spawn_strategy=remote", "--strategy=T=worker,dynamic,sandboxed"], ["--spawn_strategy=sandboxed", "--strategy=U=worker"],
@@ -49,11 +49,11 @@ ACTIONS = [
 ]
 
 LOCAL = "ok local local=won remote=unused"
-GREET = ["give", wire.GREETING.hex()]
-WORKER = [["hear", 1], ["leave", "o", "a worker's"], ["give", wire.framed(wire.response()).hex()]]
+GREET: play.Step = ["give", wire.GREETING.hex()]
+WORKER: play.Steps = [["hear", 1], ["leave", "o", "a worker's"], ["give", wire.framed(wire.response()).hex()]]
 
 
-def made(text: bytes, number: int = 1) -> list[object]:
+def made(text: bytes, number: int = 1) -> play.Step:
     """Returns a step: an executor's result with the output."""
     return ["give", wire.framed(wire.result(number, files=[(b"o", text)])).hex()]
 
@@ -90,14 +90,17 @@ def listed(words: Sequence[str], mnemonic: str) -> list[str] | None:
     rules = [word.split("=", 2)[1:] for word in words if word.startswith("--strategy=")]
     common = [word.split("=", 1)[1] for word in words if word.startswith("--spawn_strategy=")]
     own = [names for rule, names in rules if rule == mnemonic]
-    return next((names.split(",") for names in [*own, *common]), None)
+    both = [*own, *common]
+    return both[0].split(",") if both else None
 
 
 def chosen(words: Sequence[str], own: str, workers: bool, flag: bool) -> str | None:
     """Returns an action's strategy: the first of its list that supports it, or its own if it has no list."""
     names = listed(words, "T")
     able = {"sandboxed", "remote"} | ({"worker", "dynamic"} if workers and flag else set())
-    return own if names is None else next((name for name in names if name in able), None)
+    if names is None:
+        return own
+    return next((name for name in names if name in able), None)
 
 
 def choice(words: Sequence[str], own: str, workers: bool, flag: bool) -> Case:
@@ -107,10 +110,10 @@ def choice(words: Sequence[str], own: str, workers: bool, flag: bool) -> Case:
     one = action(argv=argv, strategy=own, requirements={"supports-workers": "1"} if workers else {})
     # An executor that races a worker reads its job and writes nothing more.
     executor = [GREET, ["hear", 1], *([] if name == "dynamic" else [made(b"an executor's")])]
-    players = {"t": [WORKER], "x": [executor], "b": [[GREET, ["hear", 1], made(b"a sandbox's")]]}
+    players: dict[str, Sequence[play.Steps]] = {"t": [WORKER], "x": [executor], "b": [[GREET, ["hear", 1], made(b"a sandbox's")]]}
 
     def played(programs: Programs, folder: pathlib.Path) -> None:
-        ended = exchange(as_spawn(programs), folder, [one], ["--sandbox_executor=b", *words], **players)
+        ended = exchange(as_spawn(programs), folder, [one], ["--sandbox_executor=b", *words], None, **players)
         given = (words, own, workers, flag, name)
         if name is None:
             compare(given, (8, b"", "spawn_tool: no strategy for action 0"), (ended.status, ended.out, fault_line(ended.err)))
@@ -145,7 +148,7 @@ def faults() -> Iterator[Case]:
     unsupported = action("u", outputs=["u"], strategy="remote", requirements={})
     # The flag file is missing from the inputs. A worker runs `lacks` by its own strategy, and `lacks_later` only by choice.
     lacks = action("l", outputs=["l"], argv=["t", "@g"])
-    lacks_later = {**lacks, "strategy": "remote"}
+    lacks_later: dict[str, object] = {**lacks, "strategy": "remote"}
     by_worker = ["--strategy=T=worker"]
     keys = [action(f"k{n}", outputs=[f"k{n}"], env={"K": str(n)}, strategy="remote") for n in range(49)]
     gone = action("n", outputs=["n"], inputs=["f", "gone"])
@@ -184,7 +187,7 @@ def ended_as(name: str, words: Sequence[str], wanted: Sequence[str], started: Ma
     actions = [action(f"a{n}", outputs=["o"] if count == 1 else []) for n in range(count)]
 
     def played(programs: Programs, folder: pathlib.Path) -> None:
-        ended: Ended = exchange(as_spawn(programs), folder, actions, ["--sandbox_executor=b", *words], **players)
+        ended: Ended = exchange(as_spawn(programs), folder, actions, ["--sandbox_executor=b", *words], None, **players)
         *lines, total = ended.out.decode().splitlines()
         compare((name, words), count, len(lines))
         for line in lines:
@@ -201,22 +204,22 @@ def sandboxes() -> Iterator[Case]:
     # sandboxes wait for each other here, so all of them must be started.
     for most in (1, 2, 3):
         count = 8 * most
-        answers = [wire.framed(wire.result(n + 1)).hex() for n in range(count)]
+        answers = [wire.framed(wire.result(n + 1)) for n in range(count)]
         numbers = [f"n{n}" for n in range(most)]
-        rest = [step for answer in answers[1:] for step in (["hear", 1], ["give", answer])]
-        plays = [[GREET, ["hear", 1], ["raise", it], ["await", *numbers], ["give", answers[0]], *rest] for it in numbers]
+        rest = [step for answer in answers[1:] for step in play.hear_and_give(answer)]
+        plays: list[play.Steps] = [[GREET, ["hear", 1], ["raise", it], ["await", *numbers], ["give", answers[0].hex()], *rest] for it in numbers]
         yield ended_as(f"{most} sandboxes at once", [*by_sandbox, f"--sandboxed={most}"], [LOCAL], {"t": 0, "b": most}, count, b=plays)
     yield ended_as("a sandbox that can't be started", [*by_sandbox, "--retries=0"], ["broken local=dropped:launch:1 remote=unused"],
                    {"t": 0})
-    wrong = ["give", wire.framed(wire.result(1, 3)).hex()]
+    wrong: play.Step = ["give", wire.framed(wire.result(1, 3)).hex()]
     yield ended_as("a sandbox's exit code", by_sandbox, ["failed local 3 local=won remote=unused"], {"t": 0, "b": 1},
                    b=[[GREET, ["hear", 1], wrong]])
 
 
 def delays() -> Iterator[Case]:
     raced = ["--strategy=T=dynamic"]
-    fast = [GREET, ["hear", 1], made(b"an executor's")]
-    slow = [GREET, ["hear", 1]]
+    fast: play.Steps = [GREET, ["hear", 1], made(b"an executor's")]
+    slow: play.Steps = [GREET, ["hear", 1]]
     yield ended_as("an executor that is faster than the delay: no worker is started", [*raced, "--local_delay=9999"],
                    ["ok remote local=idle remote=won"], {"t": 0, "x": 1}, t=[WORKER], x=[fast])
     yield ended_as("an executor that is slower than the delay", [*raced, "--local_delay=50"], ["ok local local=won remote=lost"],
@@ -224,7 +227,7 @@ def delays() -> Iterator[Case]:
     yield ended_as("an executor that can't be started: its worker waits no longer",
                    [*raced, "--local_delay=9999", "--executor=gone", "--retries=2"], ["ok local local=won remote=dropped:launch:3"],
                    {"t": 1}, t=[WORKER])
-    dies = [["end"]]
+    dies: play.Steps = [["end"]]
     yield ended_as("an executor that dies at each attempt", [*raced, "--local_delay=9999", "--retries=1"],
                    ["ok local local=won remote=dropped:died:2"], {"t": 1, "x": 2}, t=[WORKER],
                    x=[[GREET, ["hear", 1], *dies], [GREET, ["hear", 1], *dies]])
@@ -266,10 +269,11 @@ def full_plan(programs: Programs, folder: pathlib.Path) -> None:
     others = [action(f"k{n}", mnemonic=f"K{n}", argv=["gone", "@f"], outputs=[f"p{n}"]) for n in range(47)]
     chain = [action(f"c{n}", inputs=["f", f"o{n - 1}"][:1 + n], outputs=[f"o{n}"]) for n in range(4)]
     boxed = action("s", mnemonic="S", outputs=["s"])
-    works = [step for n in range(4) for step in (["hear", 1], ["leave", f"o{n}", "a worker's"], WORKER[-1])]
+    parts: list[play.Steps] = [[["hear", 1], ["leave", f"o{n}", "a worker's"], WORKER[-1]] for n in range(4)]
+    works = [step for part in parts for step in part]
     words = ["--strategy=T=dynamic", "--strategy=S=sandboxed", "--sandbox_executor=b", "--remote=15", "--instances=1",
              "--retries=0", "--local_delay=10"]
-    answer = ["give", wire.framed(wire.result(1, files=[(b"s", b"a sandbox's")])).hex()]
+    answer: play.Step = ["give", wire.framed(wire.result(1, files=[(b"s", b"a sandbox's")])).hex()]
     begun = time.monotonic()
     ended = exchange(as_spawn(programs), folder, [*others, *chain, boxed], words, t=[works], x=[[GREET, ["hear", 4]]] * 15,
                      b=[[GREET, ["hear", 1], answer]])
@@ -297,9 +301,9 @@ def cases() -> Iterator[Case]:
         yield accepted(words)
     for words in REFUSED:
         yield refused(words)
-    for words in CHOICES:
+    for options in CHOICES:
         for own, workers, flag in ACTIONS:
-            yield choice(words, own, workers, flag)
+            yield choice(options, own, workers, flag)
     yield from faults()
     yield from sandboxes()
     yield from delays()

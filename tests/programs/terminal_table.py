@@ -12,7 +12,7 @@ import time
 from collections.abc import Callable, Iterator
 
 import wire
-from play import MOST_SECONDS, Case, Programs, Wrong, action, compare, fill, found, json_list, put_player, report, shown
+from play import MOST_SECONDS, Case, Programs, Steps, Wrong, action, compare, fill, found, json_list, put_player, report, shown
 
 LOCAL = "ok local local=won remote=unused"
 OK = wire.framed(wire.response())
@@ -72,7 +72,7 @@ def shows(programs: Programs, folder: pathlib.Path) -> None:
     actions = [action("zeroth", outputs=["p"]), action("first", outputs=[]), action("second", outputs=["q"]),
                action("third", outputs=["r"], inputs=["f", "q"])]
     fill(folder, {"f": b"flag\n", "list": json_list(*actions)})
-    answered = [["give", OK.hex()], ["hear", 1]]
+    answered: Steps = [["give", OK.hex()], ["hear", 1]]
     put_player(folder, "t", [[["hear", 1], ["leave", "p", "made"], *answered, ["give", BAD.hex()], ["hear", 1], ["raise", "asked"],
                               ["await", "seen"], ["leave", "q", "made"], *answered, ["leave", "r", "made"], ["give", OK.hex()]]])
     terminal = Terminal(programs.worker_tool, ["--instances=1", "list"], folder, "xterm")

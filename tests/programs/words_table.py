@@ -7,7 +7,7 @@ from collections.abc import Iterator
 
 import play
 import wire
-from play import Case, Programs, action, compare, exchange, fault_line, heard, report, run
+from play import Case, Programs, Steps, action, compare, exchange, fault_line, hear_and_give, heard, report, run
 
 ACCEPTED = {
     "l.json": "l.json", "l": "l", "--instances=1 l": "l", "l --instances=48": "l", "--remote=1 l --retries=0": "l",
@@ -116,10 +116,10 @@ def meeting(words: list[str], most: int, remote: bool) -> Case:
         actions = [action(f"a{n}", outputs=[], **({"strategy": "remote"} if remote else {})) for n in range(6)]
         numbers = [f"n{n}" for n in range(most)]
         answers = [wire.framed(wire.result(n + 1)) for n in range(6)] if remote else [b"\0"] * 6
-        first = [["hear", 1]] if not remote else [["give", wire.GREETING.hex()], ["hear", 1]]
-        rest = [step for n in range(1, 6) for step in (["hear", 1], ["give", answers[n].hex()])]
-        plays = [[*first, ["raise", it], ["await", *numbers], ["give", answers[0].hex()], *rest] for it in numbers]
-        ended = exchange(programs, folder, actions, words, **{"x" if remote else "t": plays})
+        first: Steps = [["hear", 1]] if not remote else [["give", wire.GREETING.hex()], ["hear", 1]]
+        rest = [step for it in answers[1:] for step in hear_and_give(it)]
+        plays: list[Steps] = [[*first, ["raise", it], ["await", *numbers], ["give", answers[0].hex()], *rest] for it in numbers]
+        ended = exchange(programs, folder, actions, words, None, **{"x" if remote else "t": plays})
         line = "ok remote local=unused remote=won" if remote else "ok local local=won remote=unused"
         compare(words, (0, report(*[f"a{n} {line}" for n in range(6)], ok=6)), (ended.status, ended.out))
         compare(("processes", words), most, len(heard(folder, "x" if remote else "t")))

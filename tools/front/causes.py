@@ -45,7 +45,7 @@ def branch_lines(made: Build, action: Action, branch: str, kind: str, cause: str
         return missing_lines(cause[8:-1])
     if cause == "large":
         return ["the job has more than 64 MiB with its inputs; a worker has no such limit"]
-    noted = made.causes.get(action.name) or (made.unclaimed.get(action.mnemonic, []) if branch == "local" else [])
+    noted = made.causes.get(action.name, []) or (made.unclaimed.get(action.mnemonic, []) if branch == "local" else [])
     return list(event_lines(noted, action)) or program_lines(made.said, action.name)
 
 

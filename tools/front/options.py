@@ -158,8 +158,9 @@ def checked_number(shown: str, text: str, least: float, most: float, whole: bool
 def parse(given: list[str]) -> Words:
     """Parses the arguments of the settings file, of the environment and of the command line, in this order."""
     names = {it.name for it in COMMANDS}
-    if given[:1] in (["--help"], ["-h"]):
-        given = ["help", *given[1:]]
+    before = given[: given.index("--")] if "--" in given else given
+    if "--help" in before or "-h" in before:
+        given = ["help", *[it for it in before if it in names][:1]]
     has_command = bool(given) and given[0] in names
     found = Words(given[0] if has_command else "build")
     for where, more in (*settings(found.command), ("LENTHUVI_OPTIONS", given_by_environment(found.command)),

@@ -65,7 +65,7 @@ class Order:
 
     def prepare(self) -> None:
         """Makes the folders of the command's outputs, and its response files."""
-        for folder in {self.inner, *map(os.path.dirname, (*self.makes, *self.files, *self.depfile))}:
+        for folder in {self.inner, *(os.path.dirname(it) for it in (*self.makes, *self.files, *self.depfile))}:
             os.makedirs(self.at(folder), exist_ok=True)
         for path, text in self.files.items():
             with open(self.at(path), "w", encoding="utf-8", errors="surrogateescape") as file:
