@@ -1,11 +1,13 @@
 // The policy's laws.
-ghost use Rattle.std.specs.Prelude.{◌≡◌, ◌<◌, ◌^◌, [], IfOk, length, refl};
+ghost use Rattle.std.specs.Prelude.{◌≡◌, ◌<◌, ◌^◌, [], IfOk, Some, length, refl};
 ghost use Rattle.run_plan.specs.Sound.{Sound};
 ghost use Rattle.delay_rules.specs.Bounds.{DelayedKept};
 ghost use Rattle.delay_rules.specs.Delayed.{delayed_discipline, is_tick};
 ghost use Rattle.spawn_core.specs.Plans.{no_plan};
 ghost use Rattle.spawn_core.specs.Stands.{StandsIn};
-ghost use Rattle.local_delay.specs.Choices.{ReadsDelay, chosen, leave_idly, seated, spare, ticked};
+ghost use Rattle.core_tables.specs.Seats.{seat_at};
+ghost use Rattle.earliest_first.specs.Choices.{ReadsOwn, choice_on};
+ghost use Rattle.local_delay.specs.Choices.{ReadsDelay, chosen, leave_idly, next_in, seated, spare, ticked};
 ghost use Rattle.local_delay.specs.Laws as laws;
 ghost use Rattle.local_delay.specs.Stands.{StandsFor};
 
@@ -41,6 +43,21 @@ impl LocalDelay {
     {
         let policy = LocalDelay::new(alloc, &plan, ticks)?;
         Core::with_policy(alloc, policy, plan)
+    }
+
+    // Returns the decision on a berth of this group. The group's next attempt is searched for only if
+    // it may go there.
+    fn choose_at(&self, state: &State, berth: u32, seat: BerthGroup) -> Choice
+        requires delay { ReadsDelay self.now state.now }
+        requires reads { ReadsOwn state.now berth }
+        requires seated { seat_at state.now.plan berth ≡ Some seat }
+        ensures { result ≡ choice_on state.now berth seat
+            (next_in self.now state.now seat.group) }
+    {
+        if is_busy(state, berth) {
+            return Choice::Idle;
+        }
+        choose_next(state, berth, seat, self.next(state, berth, seat.group))
     }
 }
 
@@ -81,8 +98,7 @@ impl Policy for LocalDelay {
 
     fn choose(&self, state: &State, berth: u32) -> Choice {
         match group_of_berth(&state.plan, berth) {
-            Some(_) if is_busy(state, berth) => Choice::Idle,
-            Some(seat) => choose_next(state, berth, seat, self.next(state, berth, seat.group)),
+            Some(seat) => self.choose_at(state, berth, seat),
             None => leave(state),
         }
     }
