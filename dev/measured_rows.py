@@ -267,6 +267,7 @@ SCRIPTS: dict[str, tuple[str, tuple[str, ...]]] = {
     "java": ("examples/warm_javac/run", ("javac", "make", "ninja")),
     "python": ("examples/warm_python/measure bin/worker_tool 60", ("python3",)),
     "bazel-build": ("examples/bazel/run && examples/bazel/measure 3", ("bazel",)),
+    "abseil": ("examples/bazel_abseil/run", ("bazel",)),
     "ssh": ("examples/ssh/run --times", ("sshd",)),
     "slurm": ("examples/slurm/run --times", ("srun",)),
     "dask": ("examples/dask/run --times", ("dask-scheduler",)),

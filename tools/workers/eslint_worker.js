@@ -10,6 +10,10 @@ const path = require('path');
 const { createRequire } = require('module');
 const { serve, ownWords } = require('./json_worker.js');
 const home = process.env.ESLINT || '/usr/share/nodejs/eslint';
+if (!process.env.NODE_PATH) {  // eslint's modules are next to it; a Node that isn't Debian's doesn't look there
+  process.env.NODE_PATH = path.dirname(home);
+  require('module').Module._initPaths();
+}
 const cli = createRequire(path.join(home, 'lib/'))(path.join(home, 'lib/cli.js'));
 
 /** The path behind -o, or undefined. */
