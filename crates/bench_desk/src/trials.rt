@@ -3,13 +3,14 @@
 ghost use Rattle.std.specs.Prelude.{◌<◌};
 
 use crate::failure::Failure;
-use crew_trials::{Ask as SlotAsk, Slot, SlotEnd, exchange};
 use desk_trials::adder::Adder;
 use desk_trials::adding::count_by_four;
 use desk_trials::counter::Counter;
 use desk_trials::counting::{add, look, run};
+use desk_trials::exchanging::{SlotEnd, exchange};
 use desk_trials::lending::stamp_token;
 use desk_trials::locker::{Answer, Ask, Locker, Token};
+use desk_trials::slot::{Ask as SlotAsk, Slot};
 use seat_desk::{Desk, HistoryEntry};
 use std::alloc::Global;
 use std::sync::Wait;

@@ -35,7 +35,7 @@ use Rattle.core_state.specs.Reports.{branch_of_group, branch_in, attempt_in, is_
 use Rattle.ready_order.proofs.AllSettled.{sound_at}
 use Rattle.core_laws.proofs.Several.{same_sym}
 use Rattle.exec_journal.specs.Seated.{group_on}
-use Rattle.lawful_facts.specs.Moments.{SentInGroup}
+use Rattle.table_laws.specs.Moments.{SentInGroup}
 
 -- ---- lists
 

@@ -27,7 +27,7 @@ use Rattle.core_state.specs.declared.choice.Choice.{Choice}
 use Rattle.core_state.specs.declared.choice.Choice.TheVariants as choice
 use Rattle.core_state.specs.declared.state.State.{State}
 use Rattle.core_state.specs.Choices as c
-use Rattle.lawful_facts.specs.Moments.{LawfulMore, MoreFacts}
+use Rattle.table_laws.specs.Moments.{LawfulMore, MoreFacts}
 use Rattle.call_laws.specs.Moments.{BranchOf}
 use Rattle.core_state.specs.Machine.{carried, carried_reply, number_of, launched_for, sent}
 use Rattle.core_state.specs.Noted.{noted_after}

@@ -48,7 +48,7 @@ use Rattle.core_state.specs.declared.state.State.{State}
 use Rattle.core_state.specs.Choices.{is_over, row_at}
 use Rattle.core_tables.specs.Lanes.{lane_in, order_after, order_of_work, state_by}
 use Rattle.core_state.specs.Machine.{with_pool, with_end, states_after, order_on, launched_in, launch_by, launched_with, end_of_some, is_won, found_reply, found_with, claim_reply_by, takeable, takes_line, take_reply, taken_on, taken_with}
-use Rattle.lawful_facts.specs.Moments.{EntryFacts, LawfulMore, ClaimsOne}
+use Rattle.table_laws.specs.Moments.{EntryFacts, LawfulMore, ClaimsOne}
 use Rattle.core_state.specs.Noted.{noted_after}
 use Rattle.core_laws.specs.Premises.{EndsTogether}
 use Rattle.core_state.specs.Reports.{wrote_with}

@@ -58,7 +58,7 @@ use Rattle.core_state.specs.Machine.{CanEnd, CanEndOf, EndFits, CanCarry, CanCan
 use Rattle.core_tables.specs.declared.matches.Match.{Match}
 use Rattle.core_tables.specs.Matches.{matches_of, matches_on, matches_in, match_in}
 use Rattle.call_laws.specs.Matches.{recent}
-use Rattle.lawful_facts.specs.Moments.{LawfulMore}
+use Rattle.table_laws.specs.Moments.{LawfulMore}
 use Rattle.core_state.specs.Reports.{CanEndSome, CanWrite, CanHear, CanHearBy, CanAnswer, CanEndPlaces, CanEndAll, attempt_in, is_pending_at, sent_in, end_all, fed_on, bound_on, places_counts, places_states, place_counts, place_states}
 use Rattle.core_laws.specs.Stands.{Stands, MayCall}
 use Rattle.core_state.specs.Steps.{CanLaunched, CanMake}

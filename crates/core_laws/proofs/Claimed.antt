@@ -36,7 +36,7 @@ use Rattle.ready_order.specs.Stands as queue-stands
 use Rattle.ready_order.proofs.Followed as queues
 use Rattle.retry_rules.proofs.Counted as tallies
 use Rattle.core_state.specs.declared.state.State.{State}
-use Rattle.lawful_facts.specs.Moments.{JournalFacts, Uses}
+use Rattle.table_laws.specs.Moments.{JournalFacts, Uses}
 use Rattle.core_state.specs.Machine.{with_end, states_after, committed_with, claim_reply_by, found_reply}
 use Rattle.core_state.specs.Noted.{noted_after}
 use Rattle.core_laws.specs.Premises.{EndsTogether}

@@ -41,7 +41,7 @@ use Rattle.retry_rules.proofs.Counted as tallies
 use Rattle.core_tables.specs.declared.last.LastLine.{LastLine}
 use Rattle.core_state.specs.declared.state.State.{State}
 use Rattle.core_state.specs.Choices.{row_at}
-use Rattle.lawful_facts.specs.Moments.{JournalFacts, AreUsed}
+use Rattle.table_laws.specs.Moments.{JournalFacts, AreUsed}
 use Rattle.core_tables.specs.Last.{last_in, row_of, row_by, fed_of, set_cause, set_fed}
 use Rattle.core_state.specs.Machine.{states_after}
 use Rattle.call_laws.specs.Matches.{is_faulty}

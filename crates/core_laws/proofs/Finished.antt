@@ -48,7 +48,7 @@ use Rattle.core_tables.specs.declared.berth_group.BerthGroup.{BerthGroup}
 use Rattle.core_state.specs.declared.state.State.{State}
 use Rattle.core_state.specs.Choices.{row_at, attempt_on}
 use Rattle.core_laws.specs.Ends.{chain_counts, chain_states}
-use Rattle.lawful_facts.specs.Moments.{JournalFacts, AreUsed, SentInGroup, is_line, is_left, is_left_on, if_there, lost_with, LostOn}
+use Rattle.table_laws.specs.Moments.{JournalFacts, AreUsed, SentInGroup, is_line, is_left, is_left_on, if_there, lost_with, LostOn}
 use Rattle.core_tables.specs.Last.{last_in, row_of, row_by, fed_of, set_cause}
 use Rattle.core_state.specs.Machine.{counts_after, states_after, end_of_some}
 use Rattle.core_state.specs.Noted.{noted_after}

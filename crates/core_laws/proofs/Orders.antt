@@ -41,7 +41,7 @@ use Rattle.core_tables.specs.declared.last.LastLine.{LastLine}
 use Rattle.core_tables.specs.declared.matches.Match.{Match}
 use Rattle.core_state.specs.declared.choice.Choice.TheVariants as choice
 use Rattle.core_state.specs.declared.state.State.{State}
-use Rattle.lawful_facts.specs.Moments.{JournalFacts}
+use Rattle.table_laws.specs.Moments.{JournalFacts}
 use Rattle.core_tables.specs.Last.{last_in, row_of, row_by, fed_of, set_launched}
 use Rattle.core_state.specs.Machine.{carried, launched_for}
 use Rattle.core_tables.specs.Matches.{match_in, matches_in, spend_if, spent_row, with_spent}

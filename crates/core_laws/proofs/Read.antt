@@ -23,7 +23,7 @@ use Rattle.retry_rules.specs.Counts.{ended_of, count_of}
 use Rattle.retry_rules.specs.Stands.{ended_count, ended_in}
 use Rattle.core_state.specs.declared.state.State.{State}
 use Rattle.core_state.specs.Choices.{Reads}
-use Rattle.lawful_facts.specs.Moments.{JournalFacts}
+use Rattle.table_laws.specs.Moments.{JournalFacts}
 use Rattle.core_tables.specs.Greetings.{greeting_in, greeting_of}
 use Rattle.core_tables.specs.Last.{last_in, row_of}
 use Rattle.core_tables.specs.Matches.{matches_in, match_in}

@@ -42,7 +42,7 @@ use Rattle.race_core.proofs.Kept.{winner_is}
 use Rattle.core_tables.specs.declared.berth_group.BerthGroup.{BerthGroup}
 use Rattle.core_state.specs.declared.state.State.{State}
 use Rattle.core_state.specs.Choices.{row_at, is_over}
-use Rattle.lawful_facts.specs.Moments.{JournalFacts, ConsumesOne, SentInGroup}
+use Rattle.table_laws.specs.Moments.{JournalFacts, ConsumesOne, SentInGroup}
 use Rattle.call_laws.specs.Moments.{BranchOf}
 use Rattle.core_tables.specs.Greetings.{greeting_in, greeting_of}
 use Rattle.core_tables.specs.Last.{last_in, row_of}

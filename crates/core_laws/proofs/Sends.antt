@@ -37,7 +37,7 @@ use Rattle.race_core.proofs.Kept as races
 use Rattle.retry_rules.proofs.Counted as tallies
 use Rattle.core_tables.specs.declared.matches.Match.{Match}
 use Rattle.core_state.specs.declared.state.State.{State}
-use Rattle.lawful_facts.specs.Moments.{JournalFacts}
+use Rattle.table_laws.specs.Moments.{JournalFacts}
 use Rattle.call_laws.specs.Moments.{BranchOf}
 use Rattle.core_tables.specs.Last.{last_in, row_of, row_by, fed_of}
 use Rattle.core_state.specs.Machine.{sent}

@@ -35,7 +35,7 @@ use Rattle.retry_rules.specs.Stands.{ended_count}
 use Rattle.core_laws.specs.Ends.{EndsOne, chain_counts, chain_states}
 use Rattle.core_state.specs.Machine.{counts_after, states_after}
 use Rattle.core_laws.specs.Premises.{AllBegun, EndsTogether}
-use Rattle.lawful_facts.specs.Moments.{Uses}
+use Rattle.table_laws.specs.Moments.{Uses}
 use Rattle.core_laws.proofs.Ends.{counts_kept, states_kept}
 
 or_false : (b : Bool) → (b || false) ≡ b

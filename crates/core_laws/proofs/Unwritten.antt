@@ -45,7 +45,7 @@ use Rattle.race_core.proofs.Kept as races
 use Rattle.ready_order.specs.Stands as queue-stands
 use Rattle.core_tables.specs.declared.matches.Match.{Match}
 use Rattle.core_state.specs.declared.state.State.{State}
-use Rattle.lawful_facts.specs.Moments.{JournalFacts, AreUsed, SentInGroup}
+use Rattle.table_laws.specs.Moments.{JournalFacts, AreUsed, SentInGroup}
 use Rattle.call_laws.specs.Moments.{BranchOf}
 use Rattle.core_tables.specs.Last.{row_of, row_by, fed_of, set_cause}
 use Rattle.core_state.specs.Machine.{with_end, states_after, order_at}

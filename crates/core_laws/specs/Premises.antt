@@ -8,7 +8,7 @@ use Rattle.exec_journal.specs.Attempts.{attempt, ended}
 use Rattle.exec_journal.specs.Facts.{begun}
 use Rattle.exec_journal.specs.Words.{granted, grant_of, commit_of}
 use Rattle.ready_order.specs.Entries.{is_among}
-use Rattle.lawful_facts.specs.Moments.{Uses}
+use Rattle.table_laws.specs.Moments.{Uses}
 
 abbrev pub AllBegun : Plan → List Entry → List Attempt → Type 0
 AllBegun p j [] = Unit {0}

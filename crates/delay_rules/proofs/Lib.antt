@@ -3,3 +3,4 @@ pub mod Lawful
 pub mod Keeping
 pub mod Bounded
 mod Rows
+pub mod Ruling

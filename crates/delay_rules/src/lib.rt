@@ -2,4 +2,5 @@
 //! branch waits for Ticks first. Each law is the contract of a function without a body.
 #![tactic(auto)]
 
+pub mod histories;
 pub mod laws;

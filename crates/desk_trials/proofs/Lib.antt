@@ -1,3 +1,5 @@
 pub mod AdderTotals
 pub mod CounterTotals
 pub mod Lendings
+pub mod Exchanged
+pub mod Slotted

@@ -6,3 +6,5 @@ pub mod Shelf
 pub mod ShelfLaws
 pub mod Stamps
 pub mod Lanes
+pub mod Ends
+pub mod Slots

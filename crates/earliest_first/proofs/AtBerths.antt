@@ -26,7 +26,7 @@ use Rattle.core_tables.specs.declared.berth_group.BerthGroup.{BerthGroup}
 use Rattle.core_tables.specs.Seats.{seat_at, seat_from, seat_here}
 use Rattle.core_tables.proofs.Seated.{IsSeat, seat_is}
 use Rattle.core_laws.specs.Stands.{SeatFits}
-use Rattle.lawful_facts.specs.Moments.{JournalFacts}
+use Rattle.table_laws.specs.Moments.{JournalFacts}
 
 module _ (p : Plan) (j : List Entry) (good : Lawful p j) (seated : SeatedAt p j) (w l : ℕ)
     (here : last_line j w ≡ Some l) where

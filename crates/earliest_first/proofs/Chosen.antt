@@ -21,7 +21,7 @@ use Rattle.exec_journal.proofs.Lines.{lines_named}
 use Rattle.journal_laws.proofs.Berths.{Nexts, own_ask}
 use Rattle.journal_laws.proofs.Ours as ours
 use Rattle.journal_laws.proofs.Ours.{SeatedAt}
-use Rattle.lawful_facts.specs.Moments.{JournalFacts}
+use Rattle.table_laws.specs.Moments.{JournalFacts}
 use Rattle.worker_pool.proofs.Answered.{last_is}
 use Rattle.core_tables.specs.declared.berth_group.BerthGroup.{BerthGroup}
 use Rattle.core_tables.specs.Seats.{seat_at}

@@ -45,7 +45,7 @@ use Rattle.core_state.specs.declared.choice.Choice.TheVariants as choice
 use Rattle.core_state.specs.declared.state.State.{State}
 use Rattle.core_state.specs.Choices as own_state
 use Rattle.core_state.specs.Machine.{carried_reply, sent_reply}
-use Rattle.lawful_facts.specs.Moments.{JournalFacts}
+use Rattle.table_laws.specs.Moments.{JournalFacts}
 use Rattle.core_laws.specs.Stands.{SeatFits, Stands}
 use Rattle.earliest_first.specs.Choices as c
 use Rattle.earliest_first.proofs.Oldest.{any_same, each_map, find_oldest, map_twice, oldest_all, some_oldest}

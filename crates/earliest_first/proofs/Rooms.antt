@@ -19,7 +19,7 @@ use Rattle.worker_pool.specs.Rows as pool
 use Rattle.worker_pool.specs.Stands as pools
 use Rattle.worker_pool.proofs.Answered.{live_is, free_is}
 use Rattle.earliest_first.specs.Choices as choices
-use Rattle.lawful_facts.specs.Moments.{JournalFacts, Among}
+use Rattle.table_laws.specs.Moments.{JournalFacts, Among}
 
 module _ (p : Plan) (seats : ℕ) (f : pool.Facts) (j : List Entry) (st : pools.Stands p seats f j)
     (names : NameTheirLines j) (facts : JournalFacts p j)

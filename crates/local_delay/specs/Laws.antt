@@ -42,7 +42,7 @@ use Rattle.delay_rules.proofs.Bounded.{few}
 use Rattle.delay_rules.proofs.Keeping.{kept}
 use Rattle.delay_rules.proofs.Lawful.{stands_so}
 use Rattle.delay_rules.proofs.Nexts.{nexts}
-use Rattle.delay_histories.proofs.Ruling.{delayed_is_discipline}
+use Rattle.delay_rules.proofs.Ruling.{delayed_is_discipline}
 use Rattle.spawn_core.specs.Policies.{SaysSeat, StandsBy}
 use Rattle.local_delay.specs.declared.policy.DelayedPlan.{DelayedPlan}
 use Rattle.local_delay.specs.Choices as c

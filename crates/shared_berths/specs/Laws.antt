@@ -22,7 +22,7 @@ use Rattle.shared_rules.specs.Kept.{SharedKept}
 use Rattle.shared_rules.specs.Pools.{seats, usable}
 use Rattle.shared_rules.specs.Shared.{shared_discipline}
 use Rattle.shared_rules.proofs.Keeping.{kept}
-use Rattle.shared_histories.proofs.Usable.{few_usable, sound_fits, usable_berths, usable_is, usable_is_discipline}
+use Rattle.shared_rules.proofs.Usable.{few_usable, sound_fits, usable_berths, usable_is, usable_is_discipline}
 use Rattle.shared_berths.specs.declared.SharedBerths.{SharedBerths}
 use Rattle.shared_berths.specs.Choices.{ReadsShared, chosen, seat_here, seated}
 use Rattle.shared_berths.specs.Chosen.{chosen_is}

@@ -18,7 +18,7 @@ use Rattle.core_laws.specs.Stands.{SeatFits, Stands}
 use Rattle.shared_rules.specs.declared.pools.SharedPlan.{SharedPlan}
 use Rattle.shared_rules.specs.Pools.{berth_kind, pools_fit, seats}
 use Rattle.shared_rules.specs.Shared.{shared_discipline}
-use Rattle.shared_histories.proofs.Pooled.{launched_runs}
+use Rattle.shared_rules.proofs.Pooled.{launched_runs}
 use Rattle.shared_berths.specs.Choices.{seat_here, seat_of}
 
 -- the seat fits, and is an executor's exactly where the berth is

@@ -3,6 +3,7 @@
 //! Each law is the contract of a function without a body.
 #![tactic(auto)]
 
+pub mod histories;
 pub mod laws;
 mod pools;
 

@@ -12,7 +12,7 @@ use Rattle.run_tasks.specs.declared.task.Task.{Task}
 use Rattle.shared_berths.specs.declared.SharedBerths.{SharedBerths}
 use Rattle.shared_berths.specs.Laws.{basis_is}
 use Rattle.shared_berths.specs.Stands.{StandsBy, shared_by}
-use Rattle.shared_histories.proofs.Usable.{usable_is}
+use Rattle.shared_rules.proofs.Usable.{usable_is}
 use Rattle.shared_rules.specs.Kept.{SharedKept}
 use Rattle.shared_rules.specs.Runnable.{EachHasPool}
 use Rattle.shared_rules.specs.declared.pools.SharedPlan.{SharedPlan}

@@ -37,7 +37,7 @@ use Rattle.core_tables.specs.declared.lanes.LaneState.{LaneState}
 use Rattle.core_tables.specs.Greetings.{greeting_in, greeting_of}
 use Rattle.core_tables.specs.Lanes.{lane_in, state_by}
 use Rattle.core_state.specs.Machine as m
-use Rattle.lawful_facts.specs.Moments.{LawfulMore}
+use Rattle.table_laws.specs.Moments.{LawfulMore}
 use Rattle.core_state.specs.Noted.{noted_after, noted_if_kept}
 use Rattle.core_state.specs.Reports as reports
 use Rattle.core_laws.specs.Stands.{Stands}

@@ -17,7 +17,7 @@ use Rattle.core_tables.specs.Lanes.{allows_by}
 use Rattle.core_state.specs.declared.state.State.{State}
 use Rattle.core_state.specs.Noted.{noted_if_kept}
 use Rattle.spawn_core.specs.Turns.{CanTurn, Orders, may_make, turned, turned_reply}
-use Rattle.lawful_facts.specs.Moments.{LawfulMore}
+use Rattle.table_laws.specs.Moments.{LawfulMore}
 use Rattle.core_laws.specs.Stands as tables
 use Rattle.spawn_core.specs.Turning.{IsServed, turn_is}
 use Rattle.core_tables.specs.Slots as slots

@@ -7,7 +7,7 @@ use Rattle.exec_journal.specs.Entry.{Entry}
 use Rattle.exec_journal.specs.declared.reply.Reply.{Reply}
 use Rattle.exec_journal.specs.Entries.{is_kept, is_look}
 use Rattle.exec_journal.specs.Lawful.{Asked, Ticked}
-use Rattle.lawful_facts.specs.Moments.{LawfulMore}
+use Rattle.table_laws.specs.Moments.{LawfulMore}
 use Rattle.core_contract.specs.Disciplines.{IsDiscipline, LegalBy, script_of}
 use Rattle.core_contract.specs.Discipline.{Discipline}
 use Rattle.history_laws.proofs.Fitting.{anywhere}

@@ -5,3 +5,4 @@ pub mod Listed
 pub mod EndsNone
 pub mod Worked
 mod Rows
+pub mod AllFacts

@@ -2,6 +2,10 @@
 //! for the core that keeps the tables.
 #![tactic(auto)]
 
+mod laws;
+
+pub use laws::all_facts;
+
 ghost use Rattle.std.specs.Prelude.{◌≡◌, ◌<◌, ◌⊎◌, ◌&&◌, not, ℕ, ℤ, List, [], ◌∷◌, Some, None, true, false};
 ghost use Rattle.exec_journal.specs.declared.attempt.Attempt.{Attempt};
 ghost use Rattle.exec_journal.specs.declared.call.Answer.{Answer};

@@ -1,1 +1,0 @@
--- What the law cites stands in the crates below.

@@ -1,3 +1,0 @@
-pub mod Pooled
-pub mod Ruling
-pub mod Usable
