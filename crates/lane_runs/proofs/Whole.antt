@@ -27,7 +27,8 @@ use Rattle.core_bench.specs.Objects.{AreFresh, IsPlaceAt}
 use Rattle.proxy_deeds.specs.declared.settings.Settings.{Settings}
 use Rattle.proxy_steps.specs.declared.hands.EndedFeed.{EndedFeed}
 use Rattle.proxy_steps.specs.Lanes.{back_of}
-use Rattle.lane_runs.specs.Seats.{AreSeats, ProxyLeft, means_for}
+use Rattle.proxy_lane.specs.declared.lane.ProxyLeft.{ProxyLeft}
+use Rattle.lane_runs.specs.Seats.{AreSeats, means_for}
 use Rattle.tap_lane.specs.declared.ends.TapLeft.{TapLeft}
 use Rattle.lane_runs.specs.Ran.{EachBerthRan}
 use Rattle.lane_runs.specs.BerthHalves.{BerthLines, IsMatched, all_feed_lines, all_halves}

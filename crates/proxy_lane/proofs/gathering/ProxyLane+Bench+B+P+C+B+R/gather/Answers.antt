@@ -1,5 +1,5 @@
 use Rattle.std.specs.Prelude.{OnOk, IfErr}
-use Rattle.std.proofs.Common.{◌≡◌, ℕ, Result, refl, ap, ◌∙◌}
+use Rattle.std.proofs.Common.{◌≡◌, ℕ, Result, ap, subst, ◌∙◌}
 use Rattle.seat_desk.specs.declared.machine.Machine.{Ghosts}
 use Rattle.seat_desk.specs.declared.desk.Pass.{Pass}
 use Rattle.seat_desk.specs.Passes.{mine}
@@ -8,16 +8,17 @@ use Rattle.exec_journal.specs.declared.call.Call.{Call}
 use Rattle.exec_journal.specs.declared.call.Found.{Found}
 use Rattle.exec_journal.specs.declared.reply.Reply.{Reply}
 use Rattle.proxy_deeds.specs.declared.halt.ProxyHalt.{ProxyHalt}
+use Rattle.proxy_deeds.specs.declared.halt.ProxyHalt.TheVariants.{NoMemory}
 use Rattle.core_contract.specs.Shelf.{child_at}
 use Rattle.core_contract.specs.Duties.{Asks, duty_of, proxy_lane}
 use Rattle.proxy_calls.specs.Calls.{MakesNone}
-use Rattle.proxy_steps.specs.Lanes.{held_of}
-use Rattle.proxy_steps.specs.Steps.{ClaimsFound, IsCauseOfClaim}
+use Rattle.proxy_steps.specs.Steps.{open_in, ClaimsFound, IsCauseOfClaim}
 use Rattle.proxy_steps.proofs.Shelving.{claim_shelved}
 use Rattle.proxy_steps.proofs.Founds.{gather_goes, gather_cut, claim_halts}
-use Rattle.proxy_lane.proofs.Siting.{obeys_by, same_on, site_on, stays_at, still_tidy, work_on}
+use Rattle.proxy_lane.proofs.Siting.{obeys_by, same_on, site_on, stays_at, still_tidy, work_on, halts_at, obeyed_at}
+use Rattle.proxy_lane.specs.Held.{held_of}
 use Rattle.proxy_lane.specs.Sites.{means_at}
-use Rattle.proxy_lane.proofs.gathering.gather.Goals as goal
+use Rattle.proxy_lane.proofs.gathering.ProxyLane+Bench+B+P+C+B+R.gather.Goals as goal
 
 -- a Claim and a Committed leave the child on the shelf
 claimed_shelved : {M G Q A : Type 0} {g : Ghosts M Call Reply G Q} (w : ℕ) (t : Attempt) (f : Found)
@@ -45,45 +46,49 @@ act_gather-requires g c = record {
 
 pub claim_found-requires : goal.claim_found-requires
 claim_found-requires g c =
-    let p = c.args.caller.now.pass in
+    let p = c.args.self.now.caller.pass in
     let p1 = c.act_gather.new.caller.pass in
     let a = c.args.answer.now.attempt.action in
     let same = c.act_gather.ensures.stays.same in
     let work = c.action_at-work.result.now in
     let rules = g.C.Rules.discipline in
     record {
-      at_site = site_on rules c.args.site.now p p1 same c.requires.at_site;
+      at_site = site_on rules c.args.self.now.site p p1 same c.requires.at_site;
       may = c.in-Ok.ensures.may;
-      of_action = work_on rules c.args.site.now p p1 a work same
+      of_action = work_on rules c.args.self.now.site p p1 a work same
           (c.requires.at_site.work.each a work c.action_at-work.ensures);
     }
 
 pub returns-in-Err : goal.returns-in-Err
 returns-in-Err g c =
-    let p = c.args.caller.now.pass in
+    let p = c.args.self.now.caller.pass in
     let p1 = c.act_gather.new.caller.pass in
-    let h = held_of g.B.Berth.told g.B.Feed.Feed.told g.B.Child.Child.told c.args.hands.now in
+    let inside = c.self.inside in
+    let h = held_of g.B.Berth.told g.B.Feed.Feed.told g.B.Child.Child.told inside.berth inside.«open» inside.ended inside.unsaid in
+    let held = c.self.view_is in
     let x = c.args.answer.now in
     let stays = c.act_gather.ensures.stays in
     record {
-      same = stays.same;
-      tidy = still_tidy c.args.site.now p p1 c.args.hands.now _
-          (ap (child_at c.args.site.now.berth) stays.none.1) refl c.requires.may.1 c.requires.room;
-      goes = gather_cut (means_at c.args.site.now) g.C.Rules.discipline p p1 p1 h x.line x.number
+      same = record { pass = stays.same; site = refl };
+      tidy = still_tidy c.args.self.now.site.berth p p1 (open_in c.args.self.now.hands) _
+          (ap (child_at c.args.self.now.site.berth) stays.none.1) (ap open_in held) c.requires.may.1;
+      goes = halts_at (means_at c.args.self.now.site) g.C.Rules.discipline p p1 h c.args.self.now.hands held NoMemory
+          (gather_cut (means_at c.args.self.now.site) g.C.Rules.discipline p p1 p1 h x.line x.number
           x.attempt x.exit x.refused c.requires.may.0 c.action_at-work.result.now c.action_at-work.ensures stays.none
           stays.same.1 (g.B.Berth.told c.act_gather.new.berth) c.in-Err.field-0 c.in-Err.ensures.acts
-          (stays_at p1).none;
+          (stays_at p1).none);
     }
 
 pub returns-in-Ok : goal.returns-in-Ok
 returns-in-Ok g c =
-    let means = means_at c.args.site.now in
+    let means = means_at c.args.self.now.site in
     let rules = g.C.Rules.discipline in
-    let p = c.args.caller.now.pass in
+    let p = c.args.self.now.caller.pass in
     let p1 = c.act_gather.new.caller.pass in
     let p2 = c.claim_found.new.caller.pass in
-    let held = held_of g.B.Berth.told g.B.Feed.Feed.told g.B.Child.Child.told in
-    let h = held c.args.hands.now in
+    let inside = c.self.inside in
+    let h = held_of g.B.Berth.told g.B.Feed.Feed.told g.B.Child.Child.told inside.berth inside.«open» inside.ended inside.unsaid in
+    let held = c.self.view_is in
     let x = c.args.answer.now in
     let duty = c.requires.may.0 in
     let stays = c.act_gather.ensures.stays in
@@ -94,12 +99,13 @@ returns-in-Ok g c =
     let acts = c.in-Ok.ensures.acts in
     let claims = c.claim_found.ensures in
     record {
-      same = same_on p p1 p2 stays.same claims.same;
-      tidy = still_tidy c.args.site.now p p2 c.args.hands.now _
-          (claimed_shelved c.args.site.now.berth x.attempt f p p1 p2 c.claim_found.result
+      same = record { pass = same_on p p1 p2 stays.same claims.same; site = refl };
+      tidy = still_tidy c.args.self.now.site.berth p p2 (open_in c.args.self.now.hands) _
+          (claimed_shelved c.args.self.now.site.berth x.attempt f p p1 p2 c.claim_found.result
           c.requires.at_site.lane.0 stays.none stays.same.1 claims.claims claims.refused)
-          refl c.requires.may.1 c.requires.room;
-      goes = obeys_by c.args.site.now rules held c.claim_found.result p c.args.hands.now p2 _
+          (ap open_in held) c.requires.may.1;
+      goes = obeyed_at means rules p p2 h c.args.self.now.hands held c.claim_found.result
+          (obeys_by means rules c.claim_found.result p h p2 _
           ((duty_of (mine p2) ≡ Asks) × ClaimsFound x.attempt f p1 p2)
           (λ by. MakesNone p1 p2 × IsCauseOfClaim x.attempt f by)
           (λ y. (
@@ -109,5 +115,5 @@ returns-in-Ok g c =
           ))
           (λ by y. claim_halts means rules p p1 p2 h x.line x.number x.attempt x.exit x.refused duty work of
           stays.none stays.same.1 new f by acts y.0 y.1)
-          claims.claims claims.refused;
+          claims.claims claims.refused);
     }
