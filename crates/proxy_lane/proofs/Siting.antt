@@ -20,6 +20,8 @@ use Rattle.proxy_deeds.specs.declared.halt.ProxyHalt.TheVariants as cause
 use Rattle.proxy_deeds.specs.Settings.{FitsSettings, Means}
 use Rattle.proxy_calls.specs.Calls.{MakesNone, MakesOne, Stays}
 use Rattle.proxy_calls.specs.Reports.{Told}
+use Rattle.proxy_calls.specs.declared.asking.Order.{Order}
+use Rattle.outside.specs.Told.{ChildTold}
 use Rattle.proxy_steps.specs.Work.{IsWork, IsWorkOf}
 use Rattle.proxy_steps.specs.Lanes.{LaneObjects}
 use Rattle.proxy_steps.specs.Steps.{IsShelved, IsLaidBy, Goes, Halts, TellsWrote, IsCauseOf}
@@ -27,7 +29,8 @@ use Rattle.proxy_steps.proofs.Sends.{starts_later}
 use Rattle.proxy_steps.proofs.Serving.{proxy_on, by_rules}
 use Rattle.proxy_lane.specs.declared.site.Site.{Site}
 use Rattle.proxy_lane.specs.declared.site.Request.{Request}
-use Rattle.proxy_lane.specs.Sites.{IsSite, IsDue, IsWorkAt, Obeyed, ReportsWrote}
+use Rattle.proxy_lane.specs.declared.lane.ProxyLane.{ProxyLane}
+use Rattle.proxy_lane.specs.Sites.{IsSite, IsDue, IsOrdered, IsWorkAt, Obeyed, Obeys, ReportsWrote}
 
 -- ---- after a call
 
@@ -145,3 +148,16 @@ module _ {M G Q : Type 0} {g : Ghosts M Call Reply G Q} (means : Means) (rules :
   pub obeyed_at : {A : Type 0} (r : Result A ProxyHalt) → Obeyed means rules r p h0 p' h'
       → Obeyed means rules r p h p' h'
   obeyed_at r x = subst (λ (y : LaneObjects). Obeyed means rules r p y p' h') is x
+
+-- ---- what is said of the lane, by what it is
+
+module _ {M B R G Q D T K : Type 0} {g : Ghosts M Call Reply G Q} (rules : Q → Discipline) where
+  pub ordered_at : (told : K → ChildTold) (order : Order K) (x0 x : ProxyLane M B R Call Reply G Q D T K g)
+      → x0 ≡ x → IsOrdered rules told order x → IsOrdered rules told order x0
+  ordered_at told order x0 x is y =
+      subst (λ (z : ProxyLane M B R Call Reply G Q D T K g). IsOrdered rules told order z) (sym is) y
+
+  pub obeys_at : {A : Type 0} (r : Result A ProxyHalt) (x0 x : ProxyLane M B R Call Reply G Q D T K g)
+      {x' : ProxyLane M B R Call Reply G Q D T K g} → x0 ≡ x → Obeys rules r x0 x' → Obeys rules r x x'
+  obeys_at r x0 x {x'} is y =
+      subst (λ (z : ProxyLane M B R Call Reply G Q D T K g). Obeys rules r z x') is y

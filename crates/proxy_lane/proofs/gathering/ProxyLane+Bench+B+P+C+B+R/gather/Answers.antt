@@ -15,7 +15,7 @@ use Rattle.proxy_calls.specs.Calls.{MakesNone}
 use Rattle.proxy_steps.specs.Steps.{open_in, ClaimsFound, IsCauseOfClaim}
 use Rattle.proxy_steps.proofs.Shelving.{claim_shelved}
 use Rattle.proxy_steps.proofs.Founds.{gather_goes, gather_cut, claim_halts}
-use Rattle.proxy_lane.proofs.Siting.{obeys_by, same_on, site_on, stays_at, still_tidy, work_on, halts_at, obeyed_at}
+use Rattle.proxy_lane.proofs.Siting.{obeys_by, same_on, site_on, stays_at, still_tidy, work_on, ordered_at, obeys_at}
 use Rattle.proxy_lane.specs.Held.{held_of}
 use Rattle.proxy_lane.specs.Sites.{means_at}
 use Rattle.proxy_lane.proofs.gathering.ProxyLane+Bench+B+P+C+B+R.gather.Goals as goal
@@ -33,64 +33,63 @@ claimed_shelved w t f p p1 p2 (Result.Err by) is none lane claims refused =
     ap (child_at w) (refused.0.1 ∙ none.1)
 
 pub action_at-work-requires : goal.action_at-work-requires
-action_at-work-requires g c = c.requires.may.2
+action_at-work-requires g c = (ordered_at g.C.Rules.discipline g.B.Child.Child.told _ _ c.args.self.now c.self.view_is c.requires).may.2
 
 pub act_gather-requires : goal.act_gather-requires
 act_gather-requires g c = record {
-  at_site = c.requires.at_site;
-  owes = c.requires.may.0;
-  group = c.requires.may.3;
-  of_action = c.requires.at_site.work.each c.args.answer.now.attempt.action c.action_at-work.result.now
+  at_site = (ordered_at g.C.Rules.discipline g.B.Child.Child.told _ _ c.args.self.now c.self.view_is c.requires).at_site;
+  owes = (ordered_at g.C.Rules.discipline g.B.Child.Child.told _ _ c.args.self.now c.self.view_is c.requires).may.0;
+  group = (ordered_at g.C.Rules.discipline g.B.Child.Child.told _ _ c.args.self.now c.self.view_is c.requires).may.3;
+  of_action = (ordered_at g.C.Rules.discipline g.B.Child.Child.told _ _ c.args.self.now c.self.view_is c.requires).at_site.work.each c.args.answer.now.attempt.action c.action_at-work.result.now
       c.action_at-work.ensures;
 }
 
 pub claim_found-requires : goal.claim_found-requires
 claim_found-requires g c =
-    let p = c.args.self.now.caller.pass in
+    let p = c.self.inside.0.1.0.pass in
     let p1 = c.act_gather.new.caller.pass in
     let a = c.args.answer.now.attempt.action in
     let same = c.act_gather.ensures.stays.same in
     let work = c.action_at-work.result.now in
     let rules = g.C.Rules.discipline in
     record {
-      at_site = site_on rules c.args.self.now.site p p1 same c.requires.at_site;
+      at_site = site_on rules c.self.inside.0.0 p p1 same (ordered_at g.C.Rules.discipline g.B.Child.Child.told _ _ c.args.self.now c.self.view_is c.requires).at_site;
       may = c.in-Ok.ensures.may;
-      of_action = work_on rules c.args.self.now.site p p1 a work same
-          (c.requires.at_site.work.each a work c.action_at-work.ensures);
+      of_action = work_on rules c.self.inside.0.0 p p1 a work same
+          ((ordered_at g.C.Rules.discipline g.B.Child.Child.told _ _ c.args.self.now c.self.view_is c.requires).at_site.work.each a work c.action_at-work.ensures);
     }
 
 pub returns-in-Err : goal.returns-in-Err
 returns-in-Err g c =
-    let p = c.args.self.now.caller.pass in
+    let req = ordered_at g.C.Rules.discipline g.B.Child.Child.told _ _ c.args.self.now c.self.view_is c.requires in
+    let p = c.self.inside.0.1.0.pass in
     let p1 = c.act_gather.new.caller.pass in
-    let inside = c.self.inside in
+    let inside = c.self.inside.0.1.1.0 in
     let h = held_of g.B.Berth.told g.B.Feed.Feed.told g.B.Child.Child.told inside.berth inside.«open» inside.ended inside.unsaid in
-    let held = c.self.view_is in
     let x = c.args.answer.now in
     let stays = c.act_gather.ensures.stays in
-    record {
+    obeys_at g.C.Rules.discipline _ _ c.args.self.now c.self.view_is (record {
       same = record { pass = stays.same; site = refl };
-      tidy = still_tidy c.args.self.now.site.berth p p1 (open_in c.args.self.now.hands) _
-          (ap (child_at c.args.self.now.site.berth) stays.none.1) (ap open_in held) c.requires.may.1;
-      goes = halts_at (means_at c.args.self.now.site) g.C.Rules.discipline p p1 h c.args.self.now.hands held NoMemory
-          (gather_cut (means_at c.args.self.now.site) g.C.Rules.discipline p p1 p1 h x.line x.number
-          x.attempt x.exit x.refused c.requires.may.0 c.action_at-work.result.now c.action_at-work.ensures stays.none
+      tidy = still_tidy c.self.inside.0.0.berth p p1 (open_in h) _
+          (ap (child_at c.self.inside.0.0.berth) stays.none.1) refl req.may.1;
+      goes = gather_cut (means_at c.self.inside.0.0) g.C.Rules.discipline p p1 p1 h x.line x.number
+          x.attempt x.exit x.refused req.may.0 c.action_at-work.result.now c.action_at-work.ensures stays.none
           stays.same.1 (g.B.Berth.told c.act_gather.new.berth) c.in-Err.field-0 c.in-Err.ensures.acts
-          (stays_at p1).none);
-    }
+          (stays_at p1).none;
+    })
 
 pub returns-in-Ok : goal.returns-in-Ok
 returns-in-Ok g c =
-    let means = means_at c.args.self.now.site in
+    let req = ordered_at g.C.Rules.discipline g.B.Child.Child.told _ _ c.args.self.now c.self.view_is c.requires in
+    let means = means_at c.self.inside.0.0 in
     let rules = g.C.Rules.discipline in
-    let p = c.args.self.now.caller.pass in
+    let p = c.self.inside.0.1.0.pass in
     let p1 = c.act_gather.new.caller.pass in
     let p2 = c.claim_found.new.caller.pass in
-    let inside = c.self.inside in
+    let inside = c.self.inside.0.1.1.0 in
     let h = held_of g.B.Berth.told g.B.Feed.Feed.told g.B.Child.Child.told inside.berth inside.«open» inside.ended inside.unsaid in
-    let held = c.self.view_is in
     let x = c.args.answer.now in
-    let duty = c.requires.may.0 in
+    let duty = req.may.0 in
     let stays = c.act_gather.ensures.stays in
     let work = c.action_at-work.result.now in
     let of = c.action_at-work.ensures in
@@ -98,14 +97,13 @@ returns-in-Ok g c =
     let f = c.in-Ok.found in
     let acts = c.in-Ok.ensures.acts in
     let claims = c.claim_found.ensures in
-    record {
+    obeys_at g.C.Rules.discipline _ _ c.args.self.now c.self.view_is (record {
       same = record { pass = same_on p p1 p2 stays.same claims.same; site = refl };
-      tidy = still_tidy c.args.self.now.site.berth p p2 (open_in c.args.self.now.hands) _
-          (claimed_shelved c.args.self.now.site.berth x.attempt f p p1 p2 c.claim_found.result
-          c.requires.at_site.lane.0 stays.none stays.same.1 claims.claims claims.refused)
-          (ap open_in held) c.requires.may.1;
-      goes = obeyed_at means rules p p2 h c.args.self.now.hands held c.claim_found.result
-          (obeys_by means rules c.claim_found.result p h p2 _
+      tidy = still_tidy c.self.inside.0.0.berth p p2 (open_in h) _
+          (claimed_shelved c.self.inside.0.0.berth x.attempt f p p1 p2 c.claim_found.result
+          req.at_site.lane.0 stays.none stays.same.1 claims.claims claims.refused)
+          refl req.may.1;
+      goes = obeys_by means rules c.claim_found.result p h p2 _
           ((duty_of (mine p2) ≡ Asks) × ClaimsFound x.attempt f p1 p2)
           (λ by. MakesNone p1 p2 × IsCauseOfClaim x.attempt f by)
           (λ y. (
@@ -115,5 +113,5 @@ returns-in-Ok g c =
           ))
           (λ by y. claim_halts means rules p p1 p2 h x.line x.number x.attempt x.exit x.refused duty work of
           stays.none stays.same.1 new f by acts y.0 y.1)
-          claims.claims claims.refused);
-    }
+          claims.claims claims.refused;
+    })
