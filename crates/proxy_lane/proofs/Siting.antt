@@ -145,9 +145,11 @@ module _ {M G Q : Type 0} {g : Ghosts M Call Reply G Q} (means : Means) (rules :
   pub halts_at : (by : ProxyHalt) → Halts means rules by p h0 p' h' → Halts means rules by p h p' h'
   halts_at by x = subst (λ (y : LaneObjects). Halts means rules by p y p' h') is x
 
-  pub obeyed_at : {A : Type 0} (r : Result A ProxyHalt) → Obeyed means rules r p h0 p' h'
-      → Obeyed means rules r p h p' h'
-  obeyed_at r x = subst (λ (y : LaneObjects). Obeyed means rules r p y p' h') is x
+pub obeyed_at : {M G Q A : Type 0} {g : Ghosts M Call Reply G Q} (means : Means) (rules : Q → Discipline)
+    (p p' : Pass M Call Reply G Q g) (h0 h h' : LaneObjects) → h0 ≡ h → (r : Result A ProxyHalt)
+    → Obeyed means rules r p h0 p' h' → Obeyed means rules r p h p' h'
+obeyed_at means rules p p' h0 h h' is r x =
+    subst (λ (y : LaneObjects). Obeyed means rules r p y p' h') is x
 
 -- ---- what is said of the lane, by what it is
 

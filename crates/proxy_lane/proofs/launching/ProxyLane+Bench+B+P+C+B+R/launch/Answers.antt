@@ -173,7 +173,7 @@ returns-in-RoomFault g c =
       tidy = told_shelved c.self.inside.0.0.berth (call.Launched l start.RoomFault) p p2 c.tell.result
             req.at_site.lane.0 (λ o. refl) told
           ∙ order.2;
-      goes = obeyed_at means rules p p2 h was held c.tell.result
+      goes = obeyed_at means rules p p2 h was _ held c.tell.result
           (obeys_told means rules c.tell.result p h p2 _
           (call.Launched l start.RoomFault)
           (λ made. fault_goes means rules p p2 h l t order.0 none start.RoomFault x.0 (Unit {0}) new x.2 command group x.1 made
@@ -213,7 +213,7 @@ returns-in-LaunchFault g c =
       tidy = told_shelved c.self.inside.0.0.berth (call.Launched l start.LaunchFault) p p2 c.tell-in-LaunchFault.result
             req.at_site.lane.0 (λ o. refl) told
           ∙ order.2;
-      goes = obeyed_at means rules p p2 h was held c.tell-in-LaunchFault.result
+      goes = obeyed_at means rules p p2 h was _ held c.tell-in-LaunchFault.result
           (obeys_told means rules c.tell-in-LaunchFault.result p h p2 _
           (call.Launched l start.LaunchFault)
           (λ made. fault_goes means rules p p2 h l t order.0 none start.LaunchFault x.0 (Unit {0}) new x.2 command group x.1 made

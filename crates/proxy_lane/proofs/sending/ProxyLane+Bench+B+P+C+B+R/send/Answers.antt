@@ -1,6 +1,6 @@
 use Rattle.core_contract.specs.Ruled.{answer_after}
 use Rattle.std.specs.Prelude.{ℤ, option_map}
-use Rattle.std.proofs.Common.{◌≡◌, ap, sym, subst, ◌∙◌}
+use Rattle.std.proofs.Common.{◌≡◌, refl, ap, sym, subst, ◌∙◌}
 use Rattle.std.proofs.Math.Facts.{to_z-of_z}
 use Rattle.seat_desk.specs.Passes.{mine, basis, seen}
 use Rattle.core_contract.specs.Duties.{Asks, Sends, duty_of}
