@@ -15,7 +15,6 @@ use Rattle.remote_messages.specs.declared.work.WorkAction.{WorkAction}
 use Rattle.core_contract.specs.Discipline.{Discipline}
 use Rattle.core_contract.specs.Ruled.{answer_after}
 use Rattle.core_contract.specs.Discipline.{Discipline, makers_in, outputs_in}
-use Rattle.core_contract.specs.Moves.{History}
 use Rattle.core_contract.specs.Duties.{Duty, Asks, Sends, duty_of}
 use Rattle.proxy_deeds.specs.declared.halt.ProxyHalt.{ProxyHalt}
 use Rattle.proxy_deeds.specs.Settings.{FitsSettings, HasGroup, Means}

@@ -8,7 +8,6 @@ use Rattle.exec_journal.specs.declared.call.Call.{Call}
 use Rattle.exec_journal.specs.declared.call.Found.{Found}
 use Rattle.exec_journal.specs.declared.reply.Reply.{Reply}
 use Rattle.proxy_deeds.specs.declared.halt.ProxyHalt.{ProxyHalt}
-use Rattle.proxy_deeds.specs.declared.halt.ProxyHalt.TheVariants.{NoMemory}
 use Rattle.core_contract.specs.Shelf.{child_at}
 use Rattle.core_contract.specs.Duties.{Asks, duty_of, proxy_lane}
 use Rattle.proxy_calls.specs.Calls.{MakesNone}

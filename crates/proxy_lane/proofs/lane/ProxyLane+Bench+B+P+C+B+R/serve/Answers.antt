@@ -4,7 +4,7 @@ use Rattle.proxy_steps.proofs.Shelving.{at_half}
 use Rattle.proxy_steps.proofs.Serving.{goes_on, some_on, halts_on, halts_may, ends_halted, ends_stopped}
 use Rattle.proxy_lane.proofs.Siting.{same_on, site_on}
 use Rattle.proxy_lane.specs.declared.site.Site.{Site}
-use Rattle.proxy_lane.specs.Sites.{means_at, IsSite, Rounded}
+use Rattle.proxy_lane.specs.Sites.{means_at, IsSite}
 use Rattle.proxy_lane.proofs.lane.ProxyLane+Bench+B+P+C+B+R.serve.Goals as goal
 
 pub loop-init : goal.loop-init

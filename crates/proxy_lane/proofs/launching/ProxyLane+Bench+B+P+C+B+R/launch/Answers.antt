@@ -1,6 +1,6 @@
 use Rattle.std.specs.Prelude.{IfSome, map, option_map}
 use Rattle.std.specs.Global.{Vec}
-use Rattle.std.proofs.Common.{◌≡◌, ℕ, List, [], Option, Some, None, Result, refl, ap, sym, subst, ◌∙◌, inl, inr}
+use Rattle.std.proofs.Common.{◌≡◌, ℕ, List, [], Option, Some, Result, refl, ap, sym, subst, ◌∙◌, inl, inr}
 use Rattle.seat_desk.specs.Passes.{mine}
 use Rattle.exec_journal.specs.declared.call.Call.TheVariants as call
 use Rattle.exec_journal.specs.declared.call.Started.TheVariants as start
@@ -14,13 +14,12 @@ use Rattle.core_contract.specs.Shelf.{child_at}
 use Rattle.core_contract.specs.Duties.{Launches, duty_of}
 use Rattle.proxy_deeds.specs.declared.halt.ProxyHalt.{ProxyHalt}
 use Rattle.proxy_deeds.specs.declared.halt.ProxyHalt.TheVariants as cause
-use Rattle.proxy_deeds.specs.Lines.{Returned, unsaid_by}
+use Rattle.proxy_deeds.specs.Lines.{unsaid_by}
 use Rattle.proxy_deeds.specs.Ends.{HaltsBy}
 use Rattle.proxy_calls.proofs.Reportings.{may_launch}
 use Rattle.proxy_steps.specs.declared.hands.EndedFeed.{EndedFeed}
 use Rattle.proxy_steps.specs.declared.hands.OpenFeed.{OpenFeed}
 use Rattle.proxy_steps.specs.Lanes.{back_of, open_of}
-use Rattle.proxy_steps.specs.Steps.{open_in}
 use Rattle.proxy_steps.proofs.Acting.{none_open}
 use Rattle.proxy_steps.proofs.Shelving.{child_more, told_shelved}
 use Rattle.proxy_steps.proofs.Starts.{calls_deed, launch_deed, launch_halts, unsaid_halts, fault_goes, started_goes}
@@ -171,7 +170,7 @@ returns-in-RoomFault g c =
     obeys_at g.C.Rules.discipline _ _ c.args.self.now c.self.view_is (record {
       same = record { pass = c.tell.ensures.same; site = refl };
       tidy = told_shelved c.self.inside.0.0.berth (call.Launched l start.RoomFault) p p2 c.tell.result
-            req.at_site.lane.0 (λ o. refl) told
+          req.at_site.lane.0 (λ o. refl) told
           ∙ order.2;
       goes = obeyed_at means rules p p2 h was _ held c.tell.result
           (obeys_told means rules c.tell.result p h p2 _
@@ -211,7 +210,7 @@ returns-in-LaunchFault g c =
     obeys_at g.C.Rules.discipline _ _ c.args.self.now c.self.view_is (record {
       same = record { pass = c.tell-in-LaunchFault.ensures.same; site = refl };
       tidy = told_shelved c.self.inside.0.0.berth (call.Launched l start.LaunchFault) p p2 c.tell-in-LaunchFault.result
-            req.at_site.lane.0 (λ o. refl) told
+          req.at_site.lane.0 (λ o. refl) told
           ∙ order.2;
       goes = obeyed_at means rules p p2 h was _ held c.tell-in-LaunchFault.result
           (obeys_told means rules c.tell-in-LaunchFault.result p h p2 _
