@@ -26,7 +26,8 @@ use Rattle.tap_lane.specs.declared.ends.EndedTap.{EndedTap}
 use Rattle.tap_lane.specs.declared.ends.TapHalt.{TapHalt}
 use Rattle.tap_lane.specs.Heard.{back_by}
 use Rattle.tap_lane.specs.Lane.{LaneEnds}
-use Rattle.lane_runs.specs.Seats.{ProxyLeft, means_for}
+use Rattle.proxy_lane.specs.declared.lane.ProxyLeft.{ProxyLeft}
+use Rattle.lane_runs.specs.Seats.{means_for}
 use Rattle.tap_lane.specs.declared.ends.TapLeft.{TapLeft}
 use Rattle.lane_runs.specs.Ran.{EachBerthRan}
 use Rattle.lane_runs.specs.BerthHalves.{BerthLines, IsMatched, all_feed_lines, feed_lines}

@@ -33,7 +33,7 @@ use Rattle.proxy_steps.specs.Work.{IsWorkOf}
 use Rattle.tap_lane.specs.Heard.{back_by}
 use Rattle.tap_lane.specs.Lane as tap
 use Rattle.lane_runs.specs.declared.proxies.ProxySeat.{ProxySeat}
-use Rattle.lane_runs.specs.Seats.{ProxyLeft}
+use Rattle.proxy_lane.specs.declared.lane.ProxyLeft.{ProxyLeft}
 use Rattle.tap_lane.specs.declared.seat.TapSeat.{TapSeat}
 use Rattle.tap_lane.specs.declared.ends.TapLeft.{TapLeft}
 use Rattle.lane_runs.specs.Seats.{IsProxySeat, IsTapSeat, AreSeats, SpeechesFit, means_for, means_of}

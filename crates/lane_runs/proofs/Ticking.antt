@@ -1,11 +1,11 @@
 -- The lane that makes Ticks: it may run, and what it leaves.
-use Rattle.std.proofs.Common.{◌≡◌, ℕ, zero, suc, ◌+◌, ◌*◌, ◌<◌, ◌==◌, nat_lt, Bool, true, false, inl, inr, List, [], ◌∷◌, ◌++◌, replicate, Option, Some, None, refl, sym, ap, subst, ◌∙◌, arith, eqb-true}
+use Rattle.std.proofs.Common.{◌≡◌, ℕ, zero, suc, ◌+◌, ◌*◌, ◌<◌, ◌==◌, nat_lt, true, false, inl, inr, [], ◌∷◌, ◌++◌, replicate, Option, Some, None, refl, sym, ap, subst, ◌∙◌, arith, eqb-true}
 use Rattle.std.proofs.lemmas.Bool.{eqb-false, ltb-false}
 use Rattle.seat_desk.specs.declared.machine.Machine.{Ghosts}
 use Rattle.seat_desk.specs.declared.desk.Pass.{Pass}
 use Rattle.seat_desk.specs.declared.desk.Desk.{Desk}
 use Rattle.seat_desk.specs.History.{calls_by, entry}
-use Rattle.seat_desk.specs.Passes.{IsPassOf, IsSamePass, mine, basis}
+use Rattle.seat_desk.specs.Passes.{IsPassOf, IsSamePass, mine}
 use Rattle.seat_desk.specs.Turns.{NoneFrom}
 use Rattle.exec_journal.specs.declared.call.Call.{Call}
 use Rattle.exec_journal.specs.declared.call.Call.TheVariants as call
@@ -13,7 +13,7 @@ use Rattle.exec_journal.specs.declared.reply.Reply.{Reply}
 use Rattle.exec_journal.specs.declared.reply.Reply.TheVariants as reply
 use Rattle.exec_journal.proofs.Ruled.{by_bool}
 use Rattle.lane_crew.specs.Lanes.{IsFresh}
-use Rattle.lane_crew.specs.LaneJobs.{KeepsPasses, MayRun}
+use Rattle.lane_crew.specs.LaneJobs.{KeepsPasses}
 use Rattle.core_contract.specs.Discipline.{Discipline}
 use Rattle.core_contract.specs.Moves.{Past, History}
 use Rattle.core_contract.specs.Duties.{Left, duty_of, proxy_lane}

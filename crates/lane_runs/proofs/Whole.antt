@@ -1,7 +1,7 @@
 -- From what the lanes leave to the whole run.
-use Rattle.std.proofs.Common.{◌≡◌, ℕ, zero, suc, ◌+◌, ◌*◌, ◌^◌, ◌<◌, ◌≤◌, nat_lt, Bool, true, false, inl, inr, take, length-take, get_or-take, List, [], ◌∷◌, ◌++◌, length, map, Option, Some, None, refl, sym, ap, subst, ◌∙◌, arith, All}
+use Rattle.std.proofs.Common.{◌≡◌, ℕ, zero, suc, ◌+◌, ◌*◌, ◌^◌, ◌<◌, ◌≤◌, nat_lt, Bool, true, false, inr, take, length-take, get_or-take, List, [], ◌∷◌, ◌++◌, length, map, Option, Some, None, refl, sym, ap, subst, ◌∙◌, arith, All}
 use Rattle.std.specs.Prelude.{option_map, get_or, slice_get, slice_index_or}
-use Rattle.std.proofs.lemmas.Bool.{ltb-true, ltb-false}
+use Rattle.std.proofs.lemmas.Bool.{ltb-true}
 use Rattle.std.proofs.lemmas.List.{length-map}
 use Rattle.std.proofs.lemmas.Option.{slice_get-map}
 use Rattle.seat_desk.specs.History.{calls_by}
@@ -27,7 +27,8 @@ use Rattle.core_bench.specs.Objects.{AreFresh, IsPlaceAt}
 use Rattle.proxy_deeds.specs.declared.settings.Settings.{Settings}
 use Rattle.proxy_steps.specs.declared.hands.EndedFeed.{EndedFeed}
 use Rattle.proxy_steps.specs.Lanes.{back_of}
-use Rattle.lane_runs.specs.Seats.{AreSeats, ProxyLeft, means_for}
+use Rattle.proxy_lane.specs.declared.lane.ProxyLeft.{ProxyLeft}
+use Rattle.lane_runs.specs.Seats.{AreSeats, means_for}
 use Rattle.tap_lane.specs.declared.ends.TapLeft.{TapLeft}
 use Rattle.lane_runs.specs.Ran.{EachBerthRan}
 use Rattle.lane_runs.specs.BerthHalves.{BerthLines, IsMatched, all_feed_lines, all_halves}

@@ -2,7 +2,7 @@
 use Rattle.std.specs.Prelude.{◌≡◌, List, [], ◌∷◌, Option}
 use Rattle.lane_crew.specs.declared.pair.Either.{Either}
 use Rattle.lane_crew.specs.declared.pair.Either.TheVariants.{First, Second}
-use Rattle.lane_runs.specs.Seats.{ProxyLeft}
+use Rattle.proxy_lane.specs.declared.lane.ProxyLeft.{ProxyLeft}
 use Rattle.tap_lane.specs.declared.ends.TapLeft.{TapLeft}
 use Rattle.proxy_steps.specs.declared.hands.EndedFeed.{EndedFeed}
 use Rattle.lane_runs.specs.BerthHalves.{BerthLines, berth_lines}

@@ -7,7 +7,7 @@ use Rattle.lane_crew.specs.declared.pair.Either.{Either}
 use Rattle.lane_laws.specs.Numbers.{Distinct}
 use Rattle.core_contract.specs.Moves.{History}
 use Rattle.core_contract.specs.Laws.{lines_in}
-use Rattle.lane_runs.specs.Seats.{ProxyLeft}
+use Rattle.proxy_lane.specs.declared.lane.ProxyLeft.{ProxyLeft}
 use Rattle.tap_lane.specs.declared.ends.TapLeft.{TapLeft}
 use Rattle.lane_runs.specs.BerthHalves.{AreInside, BerthLines, all_feed_lines}
 use Rattle.lane_runs.specs.EndedLines.{AreLines}

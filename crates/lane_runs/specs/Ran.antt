@@ -16,7 +16,8 @@ use Rattle.proxy_steps.specs.Lanes.{back_of}
 use Rattle.proxy_steps.specs.Steps.{Ended}
 use Rattle.tap_lane.specs.Heard.{back_by}
 use Rattle.tap_lane.specs.Lane.{LaneEnds}
-use Rattle.lane_runs.specs.Seats.{ProxyLeft, means_for}
+use Rattle.proxy_lane.specs.declared.lane.ProxyLeft.{ProxyLeft}
+use Rattle.lane_runs.specs.Seats.{means_for}
 use Rattle.tap_lane.specs.declared.ends.TapLeft.{TapLeft}
 
 -- by what berths, feeds, taps and children tell, by the rule of a core

@@ -8,13 +8,8 @@ use Rattle.core_contract.specs.Discipline.{Discipline}
 use Rattle.proxy_deeds.specs.declared.settings.Settings.{Settings}
 use Rattle.proxy_deeds.specs.Settings.{Means, speaks_remote}
 use Rattle.remote_messages.specs.declared.work.WorkAction.{WorkAction}
-use Rattle.proxy_lane.specs.declared.lane.LaneEnd.{LaneEnd}
 use Rattle.lane_runs.specs.declared.proxies.ProxySeat.{ProxySeat}
 use Rattle.tap_lane.specs.declared.seat.TapSeat.{TapSeat}
-
--- what a proxy lane leaves beside its pass
-abbrev pub ProxyLeft : Type 0 → Type 0 → Type 0 → Type 0
-ProxyLeft B D K = LaneEnd (Unit {0}) B D K
 
 -- what the orders of a berth that speaks so are carried out by
 abbrev pub means_for : Settings → List WorkAction → Speech → Means

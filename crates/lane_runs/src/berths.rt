@@ -8,9 +8,8 @@ ghost use Rattle.lane_runs.specs.Blanks.{HasRoom};
 
 use crate::halves::EndedLine;
 use crate::lines::put_halves;
-use crate::proxies::ProxyLeft;
 use lane_crew::Either;
-use proxy_lane::LaneEnd;
+use proxy_lane::ProxyLeft;
 use proxy_steps::EndedFeed;
 use std::collections::VecDeque;
 use tap_lane::TapLeft;
@@ -40,8 +39,7 @@ pub(crate) fn lay_berths<B: Drop, D: Drop, T: Drop, K: Drop>(
     let mut slots = VecDeque::from_vec(shelved);
     while let Some(slot) = slots.pop_front() {
         let (proxy, heard) = next_two(&mut rest);
-        let LaneEnd {
-            pass: _,
+        let ProxyLeft {
             berth,
             feeds,
             unsaid: line,

@@ -16,7 +16,7 @@ use lane_bells::Bells;
 use lane_crew::Lane;
 use outside::{Berth, Place};
 use proxy_deeds::Settings;
-use proxy_lane::{LaneEnd, Site};
+use proxy_lane::{ProxyLeft, Site};
 use remote_messages::WorkAction;
 use run_plan::Speech;
 use seat_desk::{Desk, Pass};
@@ -37,9 +37,6 @@ pub(crate) struct ProxySeat<'a, B> {
     /// The work of all actions, by their numbers.
     pub(crate) actions: &'a [WorkAction],
 }
-
-/// The result of a proxy lane. The lane's pass is returned separately.
-pub(crate) type ProxyLeft<B, D, K> = LaneEnd<(), B, D, K>;
 
 impl<'a, B: Berth, P: Place, C: Rules> Lane<Desk<Bench<B, P, C>>, Pass<Bench<B, P, C>>>
     for ProxySeat<'a, B> {
@@ -78,20 +75,6 @@ impl<'a, B: Berth, P: Place, C: Rules> Lane<Desk<Bench<B, P, C>>, Pass<Bench<B, 
             settings,
             actions,
         };
-        let LaneEnd {
-            pass,
-            berth,
-            feeds,
-            unsaid,
-            halted,
-        } = proxy_lane::run(&site, desk, bells, pass, berth);
-        let left = LaneEnd {
-            pass: (),
-            berth,
-            feeds,
-            unsaid,
-            halted,
-        };
-        (left, pass)
+        proxy_lane::run(site, desk, bells, pass, berth)
     }
 }

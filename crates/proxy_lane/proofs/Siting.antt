@@ -1,5 +1,5 @@
 -- The site and what is asked there after a call, and what an order leaves by how it was reported.
-use Rattle.std.proofs.Common.{◌≡◌, ◌<◌, ℕ, ℤ, [], Option, Some, Result, Ok, Err, vec_len, vec_capacity, refl, ap, sym, subst, ◌∙◌, append-nil}
+use Rattle.std.proofs.Common.{◌≡◌, ℕ, ℤ, [], Option, Result, Ok, Err, refl, ap, sym, subst, ◌∙◌, append-nil}
 use Rattle.std.specs.Prelude.{OnOk, IfErr}
 use Rattle.plain_values.specs.declared.no_memory.NoMemory.{NoMemory}
 use Rattle.seat_desk.specs.declared.machine.Machine.{Ghosts}
@@ -12,23 +12,24 @@ use Rattle.exec_journal.specs.declared.reply.Reply.{Reply}
 use Rattle.exec_journal.specs.declared.reply.Reply.TheVariants as reply
 use Rattle.remote_messages.specs.declared.work.WorkAction.{WorkAction}
 use Rattle.core_contract.specs.Discipline.{Discipline, makers_in, outputs_in}
-use Rattle.core_contract.specs.Moves.{History}
 use Rattle.core_contract.specs.Shelf.{child_at}
 use Rattle.core_contract.specs.Duties.{Asks, duty_of}
 use Rattle.proxy_deeds.specs.declared.halt.ProxyHalt.{ProxyHalt}
 use Rattle.proxy_deeds.specs.declared.halt.ProxyHalt.TheVariants as cause
-use Rattle.proxy_deeds.specs.Settings.{FitsSettings}
+use Rattle.proxy_deeds.specs.Settings.{FitsSettings, Means}
 use Rattle.proxy_calls.specs.Calls.{MakesNone, MakesOne, Stays}
 use Rattle.proxy_calls.specs.Reports.{Told}
-use Rattle.proxy_steps.specs.declared.hands.Hands.{Hands}
+use Rattle.proxy_calls.specs.declared.asking.Order.{Order}
+use Rattle.outside.specs.Told.{ChildTold}
 use Rattle.proxy_steps.specs.Work.{IsWork, IsWorkOf}
 use Rattle.proxy_steps.specs.Lanes.{LaneObjects}
-use Rattle.proxy_steps.specs.Steps.{open_in, HasRoom, IsShelved, Goes, Halts, TellsWrote, IsCauseOf}
+use Rattle.proxy_steps.specs.Steps.{IsShelved, IsLaidBy, Goes, Halts, TellsWrote, IsCauseOf}
 use Rattle.proxy_steps.proofs.Sends.{starts_later}
 use Rattle.proxy_steps.proofs.Serving.{proxy_on, by_rules}
 use Rattle.proxy_lane.specs.declared.site.Site.{Site}
 use Rattle.proxy_lane.specs.declared.site.Request.{Request}
-use Rattle.proxy_lane.specs.Sites.{means_at, IsSite, IsDue, IsWorkAt, Obeyed, ReportsWrote}
+use Rattle.proxy_lane.specs.declared.lane.ProxyLane.{ProxyLane}
+use Rattle.proxy_lane.specs.Sites.{IsSite, IsDue, IsOrdered, IsWorkAt, Obeyed, Obeys, ReportsWrote}
 
 -- ---- after a call
 
@@ -80,13 +81,10 @@ module _ {M G Q R : Type 0} {g : Ghosts M Call Reply G Q} (rules : Q → Discipl
   }
 
 -- where the child on the shelf and the open line are as they were
-pub still_tidy : {M G Q R B D K : Type 0} {g : Ghosts M Call Reply G Q} (site : Site R)
-    (p p' : Pass M Call Reply G Q g) (h : Hands B D K) (line : Option ℕ)
-    → child_at site.berth (mine p') ≡ child_at site.berth (mine p) → line ≡ open_in h
-    → IsShelved site.berth p (open_in h) → HasRoom h → (child_at site.berth (mine p') ≡ line)
-    × ((l : ℕ) → line ≡ Some l → vec_len h.ended < vec_capacity h.ended)
-still_tidy site p p' h line child same shelved room =
-    (child ∙ (shelved ∙ sym same), λ l is. room l (sym same ∙ is))
+pub still_tidy : {M G Q : Type 0} {g : Ghosts M Call Reply G Q} (w : ℕ)
+    (p p' : Pass M Call Reply G Q g) (line line' : Option ℕ) → child_at w (mine p') ≡ child_at w (mine p)
+    → line' ≡ line → IsShelved w p line → child_at w (mine p') ≡ line'
+still_tidy w p p' line line' child same shelved = child ∙ (shelved ∙ sym same)
 
 -- ---- by a report
 
@@ -110,42 +108,57 @@ reports_wrote {M} {G} {Q} {A} {g} l n how wrote r p p' is same told =
           ] told;
     })
 
-module _ {M G Q R B D K A : Type 0} {g : Ghosts M Call Reply G Q} (site : Site R)
-    (rules : Q → Discipline) (held : Hands B D K → LaneObjects) (r : Result A ProxyHalt)
-    (p : Pass M Call Reply G Q g) (h : Hands B D K) (p' : Pass M Call Reply G Q g)
-    (h' : Hands B D K) where
+module _ {M G Q A : Type 0} {g : Ghosts M Call Reply G Q} (means : Means)
+    (rules : Q → Discipline) (r : Result A ProxyHalt) (p : Pass M Call Reply G Q g) (h : LaneObjects)
+    (p' : Pass M Call Reply G Q g) (h' : LaneObjects) where
   -- what each outcome of a report says comes to what is said of the order
   pub obeys_by : (Said : Type 0) (Unsaid : ProxyHalt → Type 0)
-      → (Said → (duty_of (mine p') ≡ Asks)
-      × Goes (means_at site) rules p (held h) p' (held h'))
-      → ((by : ProxyHalt) → Unsaid by
-      → Halts (means_at site) rules by p (held h) p' (held h'))
-      → OnOk r Said → IfErr r Unsaid → Obeyed site rules held r p h p' h'
+      → (Said → (duty_of (mine p') ≡ Asks) × Goes means rules p h p' h')
+      → ((by : ProxyHalt) → Unsaid by → Halts means rules by p h p' h')
+      → OnOk r Said → IfErr r Unsaid → Obeyed means rules r p h p' h'
   obeys_by Said Unsaid goes halts said unsaid = elim r as (λ (x : Result A ProxyHalt).
-      OnOk x Said → IfErr x Unsaid → Obeyed site rules held x p h p' h')
+      OnOk x Said → IfErr x Unsaid → Obeyed means rules x p h p' h')
       [ Ok u ↦ λ t n. goes t | Err by ↦ λ t n. halts by n ] said unsaid
 
   -- so does the report itself
   pub obeys_told : (report : Call)
-      → (MakesOne report reply.Noted p p'
-      → Goes (means_at site) rules p (held h) p' (held h'))
+      → (MakesOne report reply.Noted p p' → Goes means rules p h p' h')
       → ((by : ProxyHalt) → by ≡ cause.Refused report → MakesNone p p'
-      → Halts (means_at site) rules by p (held h) p' (held h'))
-      → Told report r p p' → Obeyed site rules held r p h p' h'
+      → Halts means rules by p h p' h')
+      → Told report r p p' → Obeyed means rules r p h p' h'
   obeys_told report goes halts told = elim r as (λ (x : Result A ProxyHalt).
-      Told report x p p' → Obeyed site rules held x p h p' h')
+      Told report x p p' → Obeyed means rules x p h p' h')
       [ Ok u ↦ λ t. (t.1, goes t.0) | Err by ↦ λ t. halts by t.0 t.1 ] told
 
-  -- so does what is said of hands that hold the same
-  pub obeys_from : (h0 : Hands B D K) → held h0 ≡ held h → Obeyed site rules held r p h0 p' h'
-      → Obeyed site rules held r p h p' h'
-  obeys_from h0 same x = elim r as (λ (y : Result A ProxyHalt).
-      Obeyed site rules held y p h0 p' h' → Obeyed site rules held y p h p' h') [
-        | Ok u ↦ λ z. (
-          z.0,
-          subst (λ (o : LaneObjects).
-              Goes (means_at site) rules p o p' (held h')) same z.1,
-        )
-        | Err by ↦ λ z. subst (λ (o : LaneObjects).
-            Halts (means_at site) rules by p o p' (held h')) same z
-      ] x
+-- ---- what is said of what is held, by what it is
+
+-- what the line was laid by from
+pub laid_at : (l : ℕ) (h0 h : LaneObjects) {h' : LaneObjects} → h0 ≡ h → IsLaidBy l h0 h' → IsLaidBy l h h'
+laid_at l h0 h {h'} is x = subst (λ (y : LaneObjects). IsLaidBy l y h') is x
+
+module _ {M G Q : Type 0} {g : Ghosts M Call Reply G Q} (means : Means) (rules : Q → Discipline)
+    (p p' : Pass M Call Reply G Q g) (h0 h : LaneObjects) {h' : LaneObjects} (is : h0 ≡ h) where
+  pub goes_at : Goes means rules p h0 p' h' → Goes means rules p h p' h'
+  goes_at x = subst (λ (y : LaneObjects). Goes means rules p y p' h') is x
+
+  pub halts_at : (by : ProxyHalt) → Halts means rules by p h0 p' h' → Halts means rules by p h p' h'
+  halts_at by x = subst (λ (y : LaneObjects). Halts means rules by p y p' h') is x
+
+pub obeyed_at : {M G Q A : Type 0} {g : Ghosts M Call Reply G Q} (means : Means) (rules : Q → Discipline)
+    (p p' : Pass M Call Reply G Q g) (h0 h h' : LaneObjects) → h0 ≡ h → (r : Result A ProxyHalt)
+    → Obeyed means rules r p h0 p' h' → Obeyed means rules r p h p' h'
+obeyed_at means rules p p' h0 h h' is r x =
+    subst (λ (y : LaneObjects). Obeyed means rules r p y p' h') is x
+
+-- ---- what is said of the lane, by what it is
+
+module _ {M B R G Q D T K : Type 0} {g : Ghosts M Call Reply G Q} (rules : Q → Discipline) where
+  pub ordered_at : (told : K → ChildTold) (order : Order K) (x0 x : ProxyLane M B R Call Reply G Q D T K g)
+      → x0 ≡ x → IsOrdered rules told order x → IsOrdered rules told order x0
+  ordered_at told order x0 x is y =
+      subst (λ (z : ProxyLane M B R Call Reply G Q D T K g). IsOrdered rules told order z) (sym is) y
+
+  pub obeys_at : {A : Type 0} (r : Result A ProxyHalt) (x0 x : ProxyLane M B R Call Reply G Q D T K g)
+      {x' : ProxyLane M B R Call Reply G Q D T K g} → x0 ≡ x → Obeys rules r x0 x' → Obeys rules r x x'
+  obeys_at r x0 x {x'} is y =
+      subst (λ (z : ProxyLane M B R Call Reply G Q D T K g). Obeys rules r z x') is y

@@ -15,7 +15,6 @@ use Rattle.remote_messages.specs.declared.work.WorkAction.{WorkAction}
 use Rattle.core_contract.specs.Discipline.{Discipline}
 use Rattle.core_contract.specs.Ruled.{answer_after}
 use Rattle.core_contract.specs.Discipline.{Discipline, makers_in, outputs_in}
-use Rattle.core_contract.specs.Moves.{History}
 use Rattle.core_contract.specs.Duties.{Duty, Asks, Sends, duty_of}
 use Rattle.proxy_deeds.specs.declared.halt.ProxyHalt.{ProxyHalt}
 use Rattle.proxy_deeds.specs.Settings.{FitsSettings, HasGroup, Means}
@@ -26,13 +25,13 @@ use Rattle.outside.specs.Told.{BerthTold, ChildTold, FeedTold}
 use Rattle.proxy_calls.specs.declared.asking.Answered.{Answered}
 use Rattle.proxy_calls.specs.declared.asking.Order.{Order}
 use Rattle.proxy_calls.specs.Calls.{IsProxyOf, MakesNone, MakesOne}
-use Rattle.proxy_steps.specs.declared.hands.Hands.{Hands}
 use Rattle.proxy_steps.specs.Work.{IsWork, IsWorkOf}
 use Rattle.proxy_steps.specs.Acts.{GatherActs, IsAnswered, SendActs}
 use Rattle.proxy_steps.specs.Lanes.{LaneObjects}
-use Rattle.proxy_steps.specs.Steps.{open_in, gathers, HasRoom, IsShelved, MayObey, Goes, GoesTo, Halts, Finishes, SomeKeeps, AreLaidBy, OwesClaim, ClaimsFound, IsCauseOfClaim, TellsWrote, IsCauseOf}
+use Rattle.proxy_steps.specs.Steps.{open_in, gathers, IsShelved, MayObey, Goes, GoesTo, Halts, Finishes, SomeKeeps, AreLaidBy, OwesClaim, ClaimsFound, IsCauseOfClaim, TellsWrote, IsCauseOf}
 use Rattle.proxy_lane.specs.declared.site.Site.{Site}
 use Rattle.proxy_lane.specs.declared.site.Request.{Request}
+use Rattle.proxy_lane.specs.declared.lane.ProxyLane.{ProxyLane}
 
 -- what the site's orders are carried out by
 abbrev pub means_at : {R : Type 0} → Site R → Means
@@ -83,33 +82,35 @@ module _ {M G Q R : Type 0} {g : Ghosts M Call Reply G Q} (rules : Q → Discipl
     pub may : OwesClaim rules site.berth attempt found p
     pub of_action : IsWorkAt attempt.action work
 
--- The child of the open line lies on the shelf, and there is room for the line when it ends.
-abbrev pub IsTidy : {M G Q R B D K : Type 0} {g : Ghosts M Call Reply G Q} → Site R
-    → Pass M Call Reply G Q g → Hands B D K → Type 0
-IsTidy site p h = IsShelved site.berth p (open_in h) × HasRoom h
+module _ {M G Q B D T K R : Type 0} {g : Ghosts M Call Reply G Q} where
+  -- the child of the open line lies on the shelf
+  abbrev pub IsTidy : ProxyLane M B R Call Reply G Q D T K g → Type 0
+  IsTidy x = IsShelved x.site.berth x.caller.pass (open_in x.hands)
 
-module _ {M G Q R B D K : Type 0} {g : Ghosts M Call Reply G Q} (rules : Q → Discipline)
-    (site : Site R) where
-  -- the lane is ordered so, and there is room for the open line when it ends
-  pub record IsOrdered (told : K → ChildTold) (order : Order K) (p : Pass M Call Reply G Q g)
-      (h : Hands B D K) : Type 0 where
-    pub at_site : IsSite rules site p
-    pub may : MayObey (means_at site) told site.berth order p (open_in h)
-    pub room : HasRoom h
+  -- it has the site and the pass that it had
+  pub record IsSameLane (x x' : ProxyLane M B R Call Reply G Q D T K g) : Type 0 where
+    pub pass : IsSamePass x.caller.pass x'.caller.pass
+    pub site : x'.site ≡ x.site
 
-  -- the lane may halt
-  pub record MayGiveUp (p : Pass M Call Reply G Q g) (h : Hands B D K) : Type 0 where
-    pub at_site : IsSite rules site p
-    pub may : may_halt (duty_of (mine p)) ≡ true
-    pub tidy : IsTidy site p h
+  module _ (rules : Q → Discipline) where
+    -- the lane is ordered so
+    pub record IsOrdered (told : K → ChildTold) (order : Order K)
+        (x : ProxyLane M B R Call Reply G Q D T K g) : Type 0 where
+      pub at_site : IsSite rules x.site x.caller.pass
+      pub may : MayObey (means_at x.site) told x.site.berth order x.caller.pass (open_in x.hands)
 
-  -- The lane is to ask for an order, and what it has done so far holds of what it has in its hands.
-  pub record IsReady (held : Hands B D K → LaneObjects) (p : Pass M Call Reply G Q g)
-      (h : Hands B D K) : Type 0 where
-    pub at_site : IsSite rules site p
-    pub asks : duty_of (mine p) ≡ Asks
-    pub tidy : IsTidy site p h
-    pub kept : SomeKeeps (means_at site) rules p (held h)
+    -- the lane may halt
+    pub record MayGiveUp (x : ProxyLane M B R Call Reply G Q D T K g) : Type 0 where
+      pub at_site : IsSite rules x.site x.caller.pass
+      pub may : may_halt (duty_of (mine x.caller.pass)) ≡ true
+      pub tidy : IsTidy x
+
+    -- The lane is to ask for an order, and what it has done so far holds of what it has in its hands.
+    pub record IsReady (x : ProxyLane M B R Call Reply G Q D T K g) : Type 0 where
+      pub at_site : IsSite rules x.site x.caller.pass
+      pub asks : duty_of (mine x.caller.pass) ≡ Asks
+      pub tidy : IsTidy x
+      pub kept : SomeKeeps (means_at x.site) rules x.caller.pass x.hands
 
 -- ---- what a lane leaves
 
@@ -150,48 +151,43 @@ module _ {M G Q A : Type 0} {g : Ghosts M Call Reply G Q} (result : Result A Pro
     pub claims : OnOk result ((duty_of (mine p') ≡ Asks) × ClaimsFound attempt found p p')
     pub refused : IfErr result (λ cause. MakesNone p p' × IsCauseOfClaim attempt found cause)
 
-module _ {M G Q R B D K : Type 0} {g : Ghosts M Call Reply G Q} (site : Site R)
-    (rules : Q → Discipline) (held : Hands B D K → LaneObjects) where
+module _ {M G Q : Type 0} {g : Ghosts M Call Reply G Q} (means : Means) (rules : Q → Discipline) where
   -- The order was carried out and reported, and the lane is to ask again; or it is to halt.
-  abbrev pub Obeyed : {A : Type 0} → Result A ProxyHalt → Pass M Call Reply G Q g → Hands B D K
-      → Pass M Call Reply G Q g → Hands B D K → Type 0
-  Obeyed (Ok done) p h p' h' = (duty_of (mine p') ≡ Asks)
-      × Goes (means_at site) rules p (held h) p' (held h')
-  Obeyed (Err cause) p h p' h' =
-      Halts (means_at site) rules cause p (held h) p' (held h')
-
-  -- what an order leaves
-  pub record Obeys {A : Type 0} (result : Result A ProxyHalt) (p : Pass M Call Reply G Q g)
-      (h : Hands B D K) (p' : Pass M Call Reply G Q g) (h' : Hands B D K) : Type 0 where
-    pub same : IsSamePass p p'
-    pub tidy : IsTidy site p' h'
-    pub goes : Obeyed result p h p' h'
+  abbrev pub Obeyed : {A : Type 0} → Result A ProxyHalt → Pass M Call Reply G Q g → LaneObjects
+      → Pass M Call Reply G Q g → LaneObjects → Type 0
+  Obeyed (Ok done) p h p' h' = (duty_of (mine p') ≡ Asks) × Goes means rules p h p' h'
+  Obeyed (Err cause) p h p' h' = Halts means rules cause p h p' h'
 
   -- so it is after a round, where the lane may have been told to stop
-  abbrev pub Rounded : Result Bool ProxyHalt → Pass M Call Reply G Q g → Hands B D K
-      → Pass M Call Reply G Q g → Hands B D K → Type 0
-  Rounded (Ok more) p h p' h' =
-      GoesTo (means_at site) rules more p (held h) p' (held h')
-  Rounded (Err cause) p h p' h' =
-      Halts (means_at site) rules cause p (held h) p' (held h')
+  abbrev pub Rounded : Result Bool ProxyHalt → Pass M Call Reply G Q g → LaneObjects
+      → Pass M Call Reply G Q g → LaneObjects → Type 0
+  Rounded (Ok more) p h p' h' = GoesTo means rules more p h p' h'
+  Rounded (Err cause) p h p' h' = Halts means rules cause p h p' h'
 
-  -- what a round leaves
-  pub record Rounds (result : Result Bool ProxyHalt) (p : Pass M Call Reply G Q g) (h : Hands B D K)
-      (p' : Pass M Call Reply G Q g) (h' : Hands B D K) : Type 0 where
-    pub same : IsSamePass p p'
-    pub tidy : IsTidy site p' h'
-    pub goes : Rounded result p h p' h'
+module _ {M G Q B D T K R : Type 0} {g : Ghosts M Call Reply G Q} where
+  module _ (rules : Q → Discipline) where
+    -- what an order leaves
+    pub record Obeys {A : Type 0} (result : Result A ProxyHalt)
+        (x x' : ProxyLane M B R Call Reply G Q D T K g) : Type 0 where
+      pub same : IsSameLane x x'
+      pub tidy : IsTidy x'
+      pub goes : Obeyed (means_at x.site) rules result x.caller.pass x.hands x'.caller.pass x'.hands
 
-  -- what all rounds leave
-  pub record Serves (halted : Option ProxyHalt) (p : Pass M Call Reply G Q g) (h : Hands B D K)
-      (p' : Pass M Call Reply G Q g) (h' : Hands B D K) : Type 0 where
-    pub same : IsSamePass p p'
-    pub ends : Finishes (means_at site) rules halted p (held h) p' (held h')
+    -- what a round leaves
+    pub record Rounds (result : Result Bool ProxyHalt)
+        (x x' : ProxyLane M B R Call Reply G Q D T K g) : Type 0 where
+      pub same : IsSameLane x x'
+      pub tidy : IsTidy x'
+      pub goes : Rounded (means_at x.site) rules result x.caller.pass x.hands x'.caller.pass x'.hands
 
--- it halted, and the line that was open was laid by
-pub record GivesUp {M G Q B D K : Type 0} {g : Ghosts M Call Reply G Q} (held : Hands B D K → LaneObjects)
-    (p : Pass M Call Reply G Q g) (h : Hands B D K) (p' : Pass M Call Reply G Q g)
-    (h' : Hands B D K) : Type 0 where
-  pub same : IsSamePass p p'
-  pub halted : MakesOne call.Halt reply.Noted p p'
-  pub laid_by : AreLaidBy (open_in h) (held h) (held h')
+    -- what all rounds leave
+    pub record Serves (halted : Option ProxyHalt)
+        (x x' : ProxyLane M B R Call Reply G Q D T K g) : Type 0 where
+      pub same : IsSameLane x x'
+      pub ends : Finishes (means_at x.site) rules halted x.caller.pass x.hands x'.caller.pass x'.hands
+
+  -- it halted, and the line that was open was laid by
+  pub record GivesUp (x x' : ProxyLane M B R Call Reply G Q D T K g) : Type 0 where
+    pub same : IsSameLane x x'
+    pub halted : MakesOne call.Halt reply.Noted x.caller.pass x'.caller.pass
+    pub laid_by : AreLaidBy (open_in x.hands) x.hands x'.hands

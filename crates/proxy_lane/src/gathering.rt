@@ -2,11 +2,11 @@
 ghost use Rattle.std.specs.Prelude.{◌≡◌, IfOk, OnErr};
 ghost use Rattle.proxy_calls.specs.declared.asking.Order.TheVariants as order;
 ghost use Rattle.proxy_calls.specs.Calls.{Stays};
-ghost use Rattle.proxy_steps.specs.Lanes.{held_of};
 ghost use Rattle.proxy_steps.specs.Steps.{OwesClaim, files_in, HasFiles};
 ghost use Rattle.proxy_lane.specs.Sites.{IsOrdered, IsToGather, IsGood, MayClaim, HasAnswered, GathersAt, Claims, Obeys};
 
 use crate::hands::{action_at, is_executor};
+use crate::lane::ProxyLane;
 use crate::site::Site;
 use core_bench::Bench;
 use core_contract::Rules;
@@ -18,32 +18,26 @@ use outside::{Berth, Place};
 use plain_values::{Blob, Items, NoMemory};
 use proxy_calls::{Answered, Grant, claim, commit_files, look};
 use proxy_deeds::ProxyHalt;
-use proxy_steps::Hands;
 use remote_messages::WorkAction;
 use std::alloc::Global;
 use std::sync::Wait;
 
-/// Finds the result of an answer, and claims it. Writes the granted files to the action's place.
-///
-/// # Errors
-///
-/// Returns the reason if the lane must halt.
-pub(crate) fn gather<B: Berth, P: Place, C: Rules, R: Wait>(
-    site: &Site<'_, R>,
-    caller: &mut Caller<'_, Bench<B, P, C>>,
-    hands: &mut Hands<B, B::Feed, B::Child>,
-    answer: &Answered,
-) -> Result<(), ProxyHalt>
-    requires { IsOrdered C.discipline site.now B.Child.told (order.Gather answer.now)
-        caller.old.pass hands.old }
-    ensures { Obeys site.now C.discipline (held_of B.told B.Feed.told B.Child.told) result
-        caller.old.pass hands.old caller.new.pass hands.new }
-{
-    let work = action_at(site.actions, answer.attempt.action);
-    let berth = &mut hands.berth;
-    match act_gather(site, work, caller, berth, answer) {
-        Ok(found) => claim_found(site, work, caller, answer.attempt, found),
-        Err(_) => Err(ProxyHalt::NoMemory),
+impl<'a, B: Berth, P: Place, C: Rules, R: Wait> ProxyLane<'a, Bench<B, P, C>, B, R> {
+    /// Finds the result of an answer, and claims it. Writes the granted files to the action's place.
+    ///
+    /// # Errors
+    ///
+    /// Returns the reason if the lane must halt.
+    pub(crate) fn gather(&mut self, answer: &Answered) -> Result<(), ProxyHalt>
+        requires { IsOrdered C.discipline B.Child.told (order.Gather answer.now) self.old }
+        ensures { Obeys C.discipline result self.old self.new }
+    {
+        let work = action_at(self.site.actions, answer.attempt.action);
+        let berth = &mut self.hands.berth;
+        match act_gather(&self.site, work, &mut self.caller, berth, answer) {
+            Ok(found) => claim_found(&self.site, work, &mut self.caller, answer.attempt, found),
+            Err(_) => Err(ProxyHalt::NoMemory),
+        }
     }
 }
 

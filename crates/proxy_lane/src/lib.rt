@@ -14,5 +14,5 @@ mod launching;
 mod sending;
 mod site;
 
-pub use lane::{LaneEnd, ProxyEnd, run};
+pub use lane::{ProxyLeft, run};
 pub use site::Site;

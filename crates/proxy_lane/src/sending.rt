@@ -3,7 +3,6 @@ ghost use Rattle.seat_desk.specs.Passes.{mine};
 ghost use Rattle.proxy_calls.specs.declared.asking.Order.TheVariants as order;
 ghost use Rattle.proxy_calls.specs.Calls.{Stays};
 ghost use Rattle.proxy_steps.specs.Acts.{Writes, CancelActs};
-ghost use Rattle.proxy_steps.specs.Lanes.{held_of};
 ghost use Rattle.proxy_steps.specs.Steps.{OwesWrote};
 ghost use Rattle.due_frames.specs.declared.frames.Due.TheVariants.{Frame};
 ghost use Rattle.due_frames.specs.Due.{HasSources};
@@ -13,6 +12,7 @@ ghost use Rattle.proxy_lane.specs.Writing.{asks_in, asks_of, due_of};
 
 use crate::hands::{action_at, is_executor};
 use crate::inputs::{inputs_of, know_digests};
+use crate::lane::ProxyLane;
 use crate::site::{Request, Site};
 use core_bench::Bench;
 use core_contract::Rules;
@@ -24,7 +24,7 @@ use outside::{Berth, Feed, Place};
 use plain_values::NoMemory;
 use proxy_calls::tell;
 use proxy_deeds::ProxyHalt;
-use proxy_steps::{Hands, OpenFeed};
+use proxy_steps::OpenFeed;
 use sandbox_rooms::Room;
 use std::sync::Wait;
 
@@ -136,80 +136,65 @@ pub(crate) fn act_cancel<D: Feed, R>(
     }
 }
 
-/// Carries out a Send on the open line, and reports the outcome.
-///
-/// # Errors
-///
-/// Returns the reason if the lane must halt.
-pub(crate) fn send<B: Berth, P: Place, C: Rules, R: Wait>(
-    site: &Site<'_, R>,
-    caller: &mut Caller<'_, Bench<B, P, C>>,
-    hands: &mut Hands<B, B::Feed, B::Child>,
-    line: u32,
-    number: i32,
-    attempt: Attempt,
-) -> Result<(), ProxyHalt>
-    requires { IsOrdered C.discipline site.now B.Child.told (order.Send line number attempt)
-        caller.old.pass hands.old }
-    ensures { Obeys site.now C.discipline (held_of B.told B.Feed.told B.Child.told) result
-        caller.old.pass hands.old caller.new.pass hands.new }
-{
-    match hands.open.take() {
-        Some(open) => {
-            let OpenFeed {
-                line: open_line,
-                mut feed,
-            } = open;
-            let work = action_at(site.actions, attempt.action);
-            let request = Request {
-                line,
-                number,
-                attempt,
-                work,
-            };
-            let berth = &mut hands.berth;
-            let wrote = act_send(site, caller, berth, &mut feed, &request);
-            hands.open = Some(OpenFeed {
-                line: open_line,
-                feed,
-            });
-            report(site, caller, line, number, wrote)
+impl<'a, B: Berth, P: Place, C: Rules, R: Wait> ProxyLane<'a, Bench<B, P, C>, B, R> {
+    /// Carries out a Send on the open line, and reports the outcome.
+    ///
+    /// # Errors
+    ///
+    /// Returns the reason if the lane must halt.
+    pub(crate) fn send(&mut self, line: u32, number: i32, attempt: Attempt) -> Result<(), ProxyHalt>
+        requires { IsOrdered C.discipline B.Child.told (order.Send line number attempt) self.old }
+        ensures { Obeys C.discipline result self.old self.new }
+    {
+        match self.hands.open.take() {
+            Some(open) => {
+                let OpenFeed {
+                    line: open_line,
+                    mut feed,
+                } = open;
+                let work = action_at(self.site.actions, attempt.action);
+                let request = Request {
+                    line,
+                    number,
+                    attempt,
+                    work,
+                };
+                let berth = &mut self.hands.berth;
+                let wrote = act_send(&self.site, &mut self.caller, berth, &mut feed, &request);
+                self.hands.open = Some(OpenFeed {
+                    line: open_line,
+                    feed,
+                });
+                report(&self.site, &mut self.caller, line, number, wrote)
+            }
+            None => unreachable!(),
         }
-        None => unreachable!(),
     }
-}
 
-/// Carries out a Cancel on the open line, and reports the outcome.
-///
-/// # Errors
-///
-/// Returns the reason if the lane must halt.
-pub(crate) fn cancel<B: Berth, P: Place, C: Rules, R: Wait>(
-    site: &Site<'_, R>,
-    caller: &mut Caller<'_, Bench<B, P, C>>,
-    hands: &mut Hands<B, B::Feed, B::Child>,
-    line: u32,
-    number: i32,
-) -> Result<(), ProxyHalt>
-    requires { IsOrdered C.discipline site.now B.Child.told (order.Cancel line number)
-        caller.old.pass hands.old }
-    ensures { Obeys site.now C.discipline (held_of B.told B.Feed.told B.Child.told) result
-        caller.old.pass hands.old caller.new.pass hands.new }
-{
-    match hands.open.take() {
-        Some(open) => {
-            let OpenFeed {
-                line: open_line,
-                mut feed,
-            } = open;
-            let wrote = act_cancel(site, &mut feed, number);
-            hands.open = Some(OpenFeed {
-                line: open_line,
-                feed,
-            });
-            report(site, caller, line, number, wrote)
+    /// Carries out a Cancel on the open line, and reports the outcome.
+    ///
+    /// # Errors
+    ///
+    /// Returns the reason if the lane must halt.
+    pub(crate) fn cancel(&mut self, line: u32, number: i32) -> Result<(), ProxyHalt>
+        requires { IsOrdered C.discipline B.Child.told (order.Cancel line number) self.old }
+        ensures { Obeys C.discipline result self.old self.new }
+    {
+        match self.hands.open.take() {
+            Some(open) => {
+                let OpenFeed {
+                    line: open_line,
+                    mut feed,
+                } = open;
+                let wrote = act_cancel(&self.site, &mut feed, number);
+                self.hands.open = Some(OpenFeed {
+                    line: open_line,
+                    feed,
+                });
+                report(&self.site, &mut self.caller, line, number, wrote)
+            }
+            None => unreachable!(),
         }
-        None => unreachable!(),
     }
 }
 

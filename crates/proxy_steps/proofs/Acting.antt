@@ -44,7 +44,7 @@ use Rattle.sandbox_rooms.specs.declared.room.Room.{Room}
 use Rattle.remote_branch.specs.Jobs.{job_for}
 use Rattle.due_frames.specs.Requests.{request_for}
 use Rattle.proxy_steps.specs.declared.hands.OpenFeed.{OpenFeed}
-use Rattle.proxy_steps.specs.Lanes.{open_of}
+use Rattle.proxy_steps.specs.Lanes.{Open, open_of, open_line}
 use Rattle.order_acts.specs.Acts.{GivenBy, GivesFrame, Gave, Sends, ReportsLooks, FoundFits, found_as}
 use Rattle.core_contract.specs.Moves.{History}
 use Rattle.proxy_deeds.specs.Settings.{Means, speaks_remote}
@@ -351,24 +351,25 @@ if_err (Result.Err e) P Q f x = f e x
 
 -- ---- the open line
 
-pub line_is : {D : Type 0} (o : Option (OpenFeed D)) (x : OpenFeed D) (l : ℕ)
-    → option_map (λ (y : OpenFeed D). y.line) o ≡ Some l → o ≡ Some x → x.line ≡ l
-line_is {D} o x l is e =
-    let y : Some x.line ≡ Some l = sym (ap (option_map (λ (z : OpenFeed D). z.line)) e) ∙ is in cc
+-- which line is open, what is held tells too
+pub line_told : {D : Type 0} (feed : D → FeedTold) (o : Option (OpenFeed D))
+    → open_line (option_map (open_of feed) o) ≡ option_map (λ (y : OpenFeed D). y.line) o
+line_told feed None = refl
+line_told feed (Some x) = refl
 
-pub no_line : {D : Type 0} (o : Option (OpenFeed D)) (l : ℕ)
-    → option_map (λ (y : OpenFeed D). y.line) o ≡ Some l → o ≡ None → ⊥
-no_line {D} o l is e =
-    (let y : None ≡ Some l = sym (ap (option_map (λ (z : OpenFeed D). z.line)) e) ∙ is in cc)
+pub line_is : {D : Type 0} (feed : D → FeedTold) (o : Option (OpenFeed D)) (x : OpenFeed D) (l : ℕ)
+    → open_line (option_map (open_of feed) o) ≡ Some l → o ≡ Some x → x.line ≡ l
+line_is {D} feed o x l is e =
+    let y : Some x.line ≡ Some l = sym (ap (λ (z : Option (OpenFeed D)). open_line (option_map (open_of feed) z)) e) ∙ is in cc
 
-pub same_line : {D : Type 0} (o : Option (OpenFeed D)) (x : OpenFeed D) → o ≡ Some x
-    → Some x.line ≡ option_map (λ (y : OpenFeed D). y.line) o
-same_line {D} o x e = sym (ap (option_map (λ (y : OpenFeed D). y.line)) e)
+pub no_line : {D : Type 0} (feed : D → FeedTold) (o : Option (OpenFeed D)) (l : ℕ)
+    → open_line (option_map (open_of feed) o) ≡ Some l → o ≡ None → ⊥
+no_line {D} feed o l is e =
+    (let y : None ≡ Some l = sym (ap (λ (z : Option (OpenFeed D)). open_line (option_map (open_of feed) z)) e) ∙ is in cc)
 
-pub none_open : {D : Type 0} (feed : D → FeedTold) (o : Option (OpenFeed D))
-    → option_map (λ (y : OpenFeed D). y.line) o ≡ None → option_map (open_of feed) o ≡ None
-none_open feed None is = refl
-none_open feed (Some x) is = absurd (cc)
+pub none_open : (o : Option Open) → open_line o ≡ None → o ≡ None
+none_open None is = refl
+none_open (Some x) is = absurd (cc)
 
 -- ---- what is owed after it was written
 
@@ -399,8 +400,3 @@ pub some_there : {K : Type 0} (told : K → ChildTold) (o : Option ℕ) (l : ℕ
 some_there {K} told o l r k x is e =
     subst (λ (y : Option K). IsChildThere told (Some l) y) e
     (subst (λ (z : Option ℕ). IsChildThere told z r) is x)
-
-pub closed_line : {D : Type 0} (feed : D → FeedTold) (o : Option (OpenFeed D))
-    → option_map (open_of feed) o ≡ None → option_map (λ (y : OpenFeed D). y.line) o ≡ None
-closed_line feed None is = refl
-closed_line feed (Some x) is = absurd (cc)

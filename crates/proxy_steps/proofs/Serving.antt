@@ -1,5 +1,5 @@
 -- Round after round, to the lane's end.
-use Rattle.std.proofs.Common.{◌≡◌, ℕ, ◌/◌, [], Option, Some, None, vec_len, vec_capacity, ◌<◌, refl, ap, sym, subst, ◌∙◌, arith}
+use Rattle.std.proofs.Common.{◌≡◌, ℕ, ◌/◌, [], Option, Some, None, ◌<◌, refl, ap, sym, subst, ◌∙◌}
 use Rattle.std.specs.Prelude.{true}
 use Rattle.seat_desk.specs.declared.machine.Machine.{Ghosts}
 use Rattle.seat_desk.specs.declared.desk.Pass.{Pass}
@@ -18,9 +18,8 @@ use Rattle.proxy_deeds.specs.Settings.{Means}
 use Rattle.proxy_deeds.specs.declared.halt.ProxyHalt.{ProxyHalt}
 use Rattle.proxy_deeds.specs.Ends.{may_halt}
 use Rattle.proxy_calls.specs.Calls.{MakesOne, IsProxyOf}
-use Rattle.proxy_steps.specs.declared.hands.Hands.{Hands}
 use Rattle.proxy_steps.specs.Lanes.{LaneObjects, open_line, Keeps, Halting}
-use Rattle.proxy_steps.specs.Steps.{open_in, HasRoom, IsShelved, SameShelf, Goes, SomeKeeps, Halts, AreLaidBy, Ended, Finishes, IsServedBy}
+use Rattle.proxy_steps.specs.Steps.{Goes, SomeKeeps, Halts, AreLaidBy, Ended, Finishes, IsServedBy}
 use Rattle.proxy_steps.proofs.Holding.{holds_first}
 use Rattle.proxy_steps.proofs.Ending.{halt_may, halted_ends, stopped_ends}
 
@@ -104,19 +103,7 @@ served_by means rules p p2 b h2 halted same fresh x =
     (λ r n. Ended means r n (mine p2) (seen p2) b h2.berth h2.ended h2.unsaid halted)
     (x b (first_keeps means rules p b fresh))
 
--- ---- what lies on the shelf, and the room for the open line
-
-module _ {M G Q B D K : Type 0} {g : Ghosts M Call Reply G Q} (w : ℕ)
-    (p p' : Pass M Call Reply G Q g) (h h' : Hands B D K) (shelf : SameShelf w p h p' h') where
-  pub still_shelved : IsShelved w p (open_in h) → IsShelved w p' (open_in h')
-  still_shelved is = shelf.0 ∙ (is ∙ sym shelf.1)
-
-  pub still_room : HasRoom h → HasRoom h'
-  still_room room = λ l is.
-      let same_len : vec_len h'.ended ≡ vec_len h.ended = ap vec_len shelf.2 in
-      let same_room : vec_capacity h'.ended ≡ vec_capacity h.ended = ap vec_capacity shelf.2 in
-      let there = room l (sym shelf.1 ∙ is) in
-      omega arith
+-- ---- a pass
 
 -- what holds of a pass holds of it later
 pub proxy_on : {M G Q : Type 0} {g : Ghosts M Call Reply G Q} (rules : Q → Discipline) (w : ℕ)

@@ -17,7 +17,6 @@ use Rattle.proxy_deeds.specs.Lines.{Returned, IsFed, IsBack, IsServed, feed_faul
 use Rattle.proxy_deeds.specs.Ends.{HaltsBy}
 use Rattle.proxy_steps.specs.declared.hands.EndedFeed.{EndedFeed}
 use Rattle.proxy_steps.specs.declared.hands.OpenFeed.{OpenFeed}
-use Rattle.proxy_steps.specs.declared.hands.Hands.{Hands}
 
 -- the line that is open, by what its feed tells
 pub record Open : Type 0 where
@@ -36,15 +35,6 @@ back_of feed child x = record { line = x.line; feed = feed x.feed; child = child
 
 abbrev pub open_of : {D : Type 0} → (D → FeedTold) → OpenFeed D → Open
 open_of feed x = record { line = x.line; feed = feed x.feed }
-
-abbrev pub held_of : {B D K : Type 0} → (B → BerthTold) → (D → FeedTold) → (K → ChildTold)
-    → Hands B D K → LaneObjects
-held_of berth feed child h = record {
-  berth = berth h.berth;
-  opened = option_map (open_of feed) h.open;
-  ended = map (back_of feed child) h.ended.items;
-  unsaid = option_map (back_of feed child) h.unsaid;
-}
 
 abbrev pub open_line : Option Open → Option ℕ
 open_line o = option_map (λ x. x.line) o

@@ -1,5 +1,5 @@
 -- What each step of a proxy lane asks and leaves.
-use Rattle.std.specs.Prelude.{◌≡◌, ◌<◌, ℕ, List, length, vec_len, vec_capacity, Option, Some, None, option_map, All, ℤ, Result, Ok, Err, ◌⊎◌, Bool, true, false, [], ◌∷◌, ◌++◌}
+use Rattle.std.specs.Prelude.{◌≡◌, ◌<◌, ℕ, List, length, Option, Some, None, option_map, All, ℤ, Result, Ok, Err, ◌⊎◌, Bool, true, false, [], ◌∷◌, ◌++◌}
 use Rattle.seat_desk.specs.declared.machine.Machine.{Ghosts}
 use Rattle.seat_desk.specs.declared.desk.Pass.{Pass}
 use Rattle.seat_desk.specs.Passes.{mine, basis, seen}
@@ -35,8 +35,7 @@ use Rattle.proxy_calls.specs.declared.asking.Order.TheVariants as order
 use Rattle.proxy_calls.specs.Calls.{MakesOne, MayMake}
 use Rattle.proxy_calls.specs.Claims.{claim_of}
 use Rattle.proxy_deeds.specs.Lines.{Returned, EndsLine, IsKilled, IsServed, AreBack, started_in}
-use Rattle.proxy_steps.specs.declared.hands.Hands.{Hands}
-use Rattle.proxy_steps.specs.Lanes.{Open, LaneObjects, Keeps, Halting}
+use Rattle.proxy_steps.specs.Lanes.{Open, LaneObjects, Keeps, Halting, open_line}
 
 -- the files that were found
 abbrev pub files_in : Found → List (List ℕ)
@@ -101,14 +100,9 @@ IsCauseOf l n (Err e) by = by ≡ cause.NoMemory
 abbrev pub gathers : Answered → Duty
 gathers x = Gathers x.line x.number x.attempt x.exit x.refused
 
-module _ {B D K : Type 0} where
-  -- the line that is open
-  abbrev pub open_in : Hands B D K → Option ℕ
-  open_in h = option_map (λ x. x.line) h.open
-
-  -- there is room for it among those that ended
-  abbrev pub HasRoom : Hands B D K → Type 0
-  HasRoom h = (l : ℕ) → open_in h ≡ Some l → vec_len h.ended < vec_capacity h.ended
+-- the line that is open
+abbrev pub open_in : LaneObjects → Option ℕ
+open_in h = open_line h.opened
 
 module _ {M G Q : Type 0} {g : Ghosts M Call Reply G Q} where
   -- the child of the open line lies on the shelf for the berth, and none where no line is open
@@ -136,13 +130,6 @@ module _ {M G Q : Type 0} {g : Ghosts M Call Reply G Q} where
     Halts cause p h p' h' = (first : BerthTold)
         → Keeps (answer_after (rules (basis p))) p.lane means (mine p) (seen p) first h
         → Halting (answer_after (rules (basis p))) p.lane means cause (mine p') (seen p') first h'
-
-  -- the shelf has the child that it had, and the line that was open is
-  abbrev pub SameShelf : {B D K : Type 0} → ℕ → Pass M Call Reply G Q g → Hands B D K
-      → Pass M Call Reply G Q g → Hands B D K → Type 0
-  SameShelf w p h p' h' =
-      (child_at w (mine p') ≡ child_at w (mine p)) × (open_in h' ≡ open_in h)
-      × (h'.ended ≡ h.ended)
 
   -- ---- the report of what was written
 

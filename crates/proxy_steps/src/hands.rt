@@ -1,4 +1,4 @@
-//! The local state of a proxy lane, its hands.
+//! The feeds of a proxy lane's lines.
 
 /// The feed of a line that has ended, with the line's child, which was killed.
 #[derive(Drop)]
@@ -13,15 +13,4 @@ pub struct EndedFeed<D, K> {
 pub struct OpenFeed<D> {
     pub line: u32,
     pub feed: D,
-}
-
-/// The berth, the feed of the open line, and the results of the lines before it. `ended` has room
-/// for the open line.
-#[derive(Drop)]
-pub struct Hands<B, D, K> {
-    pub berth: B,
-    pub open: Option<OpenFeed<D>>,
-    pub ended: Vec<EndedFeed<D, K>>,
-    /// A line that was started, but not reported because memory ran out.
-    pub unsaid: Option<EndedFeed<D, K>>,
 }

@@ -1,4 +1,4 @@
-use Rattle.std.proofs.Common.{◌≡◌, ◌+◌, ◌*◌, ◌≤◌, ◌∙◌, ℕ, List, length, refl, ap, sym, subst, arith}
+use Rattle.std.proofs.Common.{◌+◌, ◌≤◌, ◌∙◌, List, length, refl, ap, sym, subst, arith}
 use Rattle.lane_crew.specs.declared.pair.Either.{Either}
 use Rattle.core_bench.specs.Objects.{AreFresh}
 use Rattle.lane_runs.specs.declared.proxies.ProxySeat.{ProxySeat}
@@ -8,7 +8,7 @@ use Rattle.proxy_deeds.specs.Settings.{AreOfPlan}
 use Rattle.lane_runs.specs.Seats.{berths_in}
 use Rattle.proxy_steps.specs.Work.{IsWorkOf}
 use Rattle.lane_runs.proofs.Running.{FitFrom, all_fit, all_may}
-use Rattle.lane_runs.proofs.Ticking.{back_is, keeps_ticking, seat_gone, seat_may, seat_others, seat_paced}
+use Rattle.lane_runs.proofs.Ticking.{back_is, seat_gone, seat_may, seat_others, seat_paced}
 use Rattle.lane_runs.proofs.Seating.{seated_berths}
 use Rattle.lane_runs.proofs.Crewed.{two_each, blank_suits, room_suits}
 use Rattle.lane_runs.proofs.Whole.{crewed}

@@ -1,0 +1,25 @@
+-- What a proxy lane has in its hands, by what it tells.
+use Rattle.std.specs.Prelude.{◌≡◌, ◌<◌, ℕ, [], map, Option, Some, None, option_map, vec_len, vec_capacity}
+use Rattle.std.specs.Global.{Vec}
+use Rattle.outside.specs.Told.{BerthTold, FeedTold, ChildTold}
+use Rattle.proxy_steps.specs.declared.hands.EndedFeed.{EndedFeed}
+use Rattle.proxy_steps.specs.declared.hands.OpenFeed.{OpenFeed}
+use Rattle.proxy_steps.specs.Lanes.{LaneObjects, open_of, back_of}
+
+abbrev pub held_of : {B D K : Type 0} → (B → BerthTold) → (D → FeedTold) → (K → ChildTold)
+    → B → Option (OpenFeed D) → Vec (EndedFeed D K) → Option (EndedFeed D K) → LaneObjects
+held_of told feed child b line ended unsaid = record {
+  berth = told b;
+  opened = option_map (open_of feed) line;
+  ended = map (back_of feed child) ended.items;
+  unsaid = option_map (back_of feed child) unsaid;
+}
+
+-- no line was started
+abbrev pub first_held : BerthTold → LaneObjects
+first_held b = record { berth = b; opened = None; ended = []; unsaid = None }
+
+-- there is room for the open line among those that ended
+abbrev pub HasRoom : {D K : Type 0} → Option (OpenFeed D) → Vec (EndedFeed D K) → Type 0
+HasRoom line ended =
+    (l : ℕ) → option_map (λ x. x.line) line ≡ Some l → vec_len ended < vec_capacity ended
