@@ -8,6 +8,7 @@ PROGRAM.n. A part is a list of steps:
     ["hear lines", N]       reads N more lines
     ["give", DIGITS, ..]    writes bytes, piece by piece
     ["leave", PATH, TEXT]   puts a file into the room
+    ["copy", PATH, TO]      copies a file in the room; if it isn't there, ends
     ["raise", NAME]         lets the processes continue that wait for this name
     ["await", NAME, ..]     waits until all these names are raised, for at most 200 seconds each
     ["end"]                 ends at once
@@ -72,6 +73,15 @@ def leave(path: str, text: str) -> None:
         file.write(text)
 
 
+def copy(path: str, to: str) -> None:
+    try:
+        with open(path, encoding="utf-8") as file:
+            text = file.read()
+    except FileNotFoundError:
+        sys.exit(f"{NAME}: {path} isn't there")
+    leave(to, text)
+
+
 def wait(name: str) -> None:
     end = time.monotonic() + MOST_SECONDS
     while not os.path.exists(f"{TOP}/raised.{name}"):
@@ -93,6 +103,8 @@ def play(step: list[str | int], ear: Ear) -> None:
             os.write(1, bytes.fromhex(str(piece)))
     elif kind == "leave":
         leave(*map(str, parts))
+    elif kind == "copy":
+        copy(*map(str, parts))
     elif kind == "raise":
         open(f"{TOP}/raised.{parts[0]}", "wb").close()
     elif kind == "await":

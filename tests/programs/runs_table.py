@@ -23,13 +23,14 @@ def serve(output: str = "o", text: str = "made") -> list[list[object]]:
 
 def played(name: str, actions: Sequence[Mapping[str, object]], wanted: bytes, words: Sequence[str] = ("--instances=1",),
            files: Mapping[str, bytes | None] | None = None, count: int | None = None, others: Sequence[str] = (),
-           **players: Sequence[Steps]) -> Case:
+           given: Mapping[str, bytes] | None = None, **players: Sequence[Steps]) -> Case:
     """Returns a case that checks a run's report, the files at these paths afterwards, and the number of processes of `t`.
+    The files `given` are there before.
 
     If a branch's fate depends on which lane is first, `others` lists the other fates that it may have.
     """
     def case(programs: Programs, folder: pathlib.Path) -> None:
-        ended = exchange(programs, folder, actions, words, None, **players)
+        ended = exchange(programs, folder, actions, words, given, **players)
         status = 0 if f"ok={len(actions)} ".encode() in wanted else 1
         compare((name, words), (status, wanted), (ended.status, with_fate(ended.out, wanted, others)))
         play.no_fault(ended)
@@ -68,6 +69,9 @@ def workers() -> Iterator[Case]:
     yield played("outputs that are a folder, and one that isn't there", [action(outputs=["d/p", "q"])],
                  report("a broken local=dropped:missing(d/p):2 remote=unused", broken=1), files={"q": None},
                  t=[[["hear", 1], ["leave", "d/p/x", ""], ["leave", "q", ""], ["give", OK.hex()]] * 2] * 2)
+    yield played("the second output isn't there", [action(outputs=["o", "q"])],
+                 report("a broken local=dropped:missing(q):1 remote=unused", broken=1), ["--retries=0"], files={"o": None},
+                 t=[serve()])
     failed = wire.framed(wire.response(0, 3, b"x\n\ny"))
     yield played("an action fails, and what reads its output is skipped",
                  [action("a"), action("b", outputs=["q"], inputs=["f", "o"]), action("c", outputs=["r"], inputs=["f", "q"])],
@@ -89,6 +93,25 @@ def several() -> Iterator[Case]:
                  ["--retries=0", "--instances=1"], t=[[["hear", 3], ["give", answers[0], "80" * 10]]])
     yield played("it is cancelled though nobody asked", three[:1], report("a broken local=dropped:breach:1 remote=unused", broken=1),
                  ["--retries=0"], t=[[["hear", 1], ["give", wire.framed(wire.response(1, cancelled=True)).hex()]]])
+
+
+def rooms() -> Iterator[Case]:
+    """Yields runs that show what is in a worker's room, for workers that take several requests."""
+    needs = supports("multiplex-workers")
+    answers = [wire.framed(wire.response(number)).hex() for number in (1, 2)]
+    yield played("an output that an earlier attempt left", [action(outputs=["o", "q"], requirements=needs)],
+                 report("a broken local=dropped:missing(o):2 remote=unused", broken=1), count=1, files={"o": None, "q": None},
+                 t=[[["hear", 1], ["leave", "o", ""], ["give", answers[0]], ["hear", 1], ["leave", "q", ""], ["give", answers[1]]]])
+    two = [action("a", inputs=["f", "i"], requirements=needs), action("b", inputs=["f", "j"], outputs=["q"], requirements=needs)]
+    both = report(f"a {LOCAL}", f"b {LOCAL}", ok=2)
+    # A request leaves the inputs of the one before it in the room that both share.
+    once = ["--instances=1", "--retries=0"]
+    yield played("inputs of two requests in one room", two, both, once, count=1, given={"i": b"of a", "j": b"of b"},
+                 files={"o": b"of a", "q": b"of b"}, t=[[["hear", 2], ["copy", "i", "o"], ["copy", "j", "q"], ["give", *answers]]])
+    boxed = supports("multiplex-workers", "multiplex-sandboxing")
+    yield played("inputs of two requests with a folder each", [{**it, "requirements": boxed} for it in two], both, once, count=1,
+                 given={"i": b"of a", "j": b"of b"}, files={"o": b"of a", "q": b"of b"},
+                 t=[[["hear", 2], ["copy", "__sandbox/1/i", "__sandbox/1/o"], ["copy", "__sandbox/2/j", "__sandbox/2/q"], ["give", *answers]]])
 
 
 def races() -> Iterator[Case]:
@@ -217,6 +240,6 @@ def largest(programs: Programs, folder: pathlib.Path) -> None:
 
 
 def cases() -> Iterator[Case]:
-    for part in [workers, several, races, keys, places]:
+    for part in [workers, several, rooms, races, keys, places]:
         yield from part()
     yield Case("the largest list", largest)
