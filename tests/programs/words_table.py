@@ -42,8 +42,6 @@ BROKEN = [
     ("spawn_tool", "--remote=9 --sandboxed=8 l", "--remote and --sandboxed are at most 16 together"),
     ("spawn_tool", "--sandboxed=16 l", "--remote and --sandboxed are at most 16 together"),
     ("spawn_tool", "--strategy=A=worker --strategy=B=worker --sandboxed=16 l", "--remote and --sandboxed are at most 16 together"),
-    ("spawn_tool", "--strategy=A=worker --strategy=A=remote l",
-     "every option but --strategy and --extra_flag stands once at most, and each mnemonic has one --strategy"),
     ("spawn_tool", "--strategy=A=worker --strategy=A=remote l", EACH_ONCE),
     ("spawn_tool", "--local_delay=1 --local_delay=2 l", EACH_ONCE),
     ("spawn_tool", "--generate=4", 'this word isn\'t accepted: "--generate=4"'),

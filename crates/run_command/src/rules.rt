@@ -3,9 +3,8 @@ use crate::hints::Program;
 use plain_values::NoMemory;
 use std::alloc::Global;
 
-// The options that may stand several times, the second one once for each mnemonic.
-const EXTRA: &str = "--extra_flag";
-const STRATEGY: &str = "--strategy";
+// The option that may stand several times.
+const SEVERAL: &str = "--extra_flag";
 
 // The word by which a program makes its list.
 const GENERATES: &str = "--generate";
@@ -45,8 +44,7 @@ fn repeated(words: &[String]) -> Option<&str> {
     for (place, word) in words.iter().enumerate() {
         let option = option_of(word.as_str());
         let mut before = words.iter().take(place);
-        let may_repeat = option == EXTRA || option == STRATEGY;
-        if !may_repeat && before.any(|other| option_of(other.as_str()) == option) {
+        if option != SEVERAL && before.any(|other| option_of(other.as_str()) == option) {
             return Some(option);
         }
     }
