@@ -5,3 +5,6 @@ pub mod SoundGroups
 pub mod SoundMakers
 pub mod SoundActions
 pub mod WholeLists
+pub mod Numbers
+pub mod Uses
+pub mod Tables

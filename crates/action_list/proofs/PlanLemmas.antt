@@ -1,5 +1,5 @@
 -- The parts of a plan together.
-use Rattle.std.proofs.Common.{◌≡◌, ℕ, ◌+◌, List, [], map, Option, refl, ap, ◌∙◌}
+use Rattle.std.proofs.Common.{◌≡◌, ℕ, ◌+◌, List, [], map, refl, ap, ◌∙◌}
 use Rattle.run_plan.specs.declared.plan.Group.{Group}
 use Rattle.run_plan.specs.declared.plan.Plan.{Plan}
 use Rattle.run_plan.specs.declared.plan.PlanAction.{PlanAction}
@@ -8,16 +8,15 @@ use Rattle.action_list.specs.Keys.{keys_of}
 use Rattle.action_list.specs.Plans.{groups_of, local_key, plan_actions, plan_of}
 use Rattle.action_list.proofs.SoundActions.{planned}
 
-pub whole_plan : (xs : List ListAction) (instances remote retries : ℕ) (held : List (Option (List ℕ))) (keys : List (List ℕ))
-    (actions : List PlanAction) (groups : List Group) → held ≡ map local_key xs → keys ≡ keys_of xs
-    → actions ≡ plan_actions keys [] xs → groups ≡ groups_of xs held keys instances remote
+pub whole_plan : (xs : List ListAction) (instances remote retries : ℕ) (keys : List (List ℕ))
+    (actions : List PlanAction) (groups : List Group) → keys ≡ keys_of xs
+    → actions ≡ plan_actions keys [] xs → groups ≡ groups_of xs (map local_key xs) keys instances remote
     → record { actions = actions; groups = groups; limit = retries + 1 } ≡ planned xs instances remote retries
-whole_plan xs instances remote retries held keys actions groups of_held of_keys of_actions of_groups =
+whole_plan xs instances remote retries keys actions groups of_keys of_actions of_groups =
     let with_actions : List PlanAction → Plan = λ v. record { actions = v; groups = groups; limit = retries + 1 } in
     let with_groups : List Group → Plan = λ v. record { actions = plan_actions (keys_of xs) [] xs; groups = v; limit = retries + 1 } in
     ap with_actions (of_actions ∙ ap (λ ks. plan_actions ks [] xs) of_keys)
-    ∙ ap with_groups (of_groups ∙ ap (λ hs. groups_of xs hs keys instances remote) of_held
-    ∙ ap (λ ks. groups_of xs (map local_key xs) ks instances remote) of_keys)
+    ∙ ap with_groups (of_groups ∙ ap (λ ks. groups_of xs (map local_key xs) ks instances remote) of_keys)
 
 pub plan_of-planned : (xs : List ListAction) (instances remote retries : ℕ) → planned xs instances remote retries ≡ plan_of xs instances remote retries
 unfolding plan_of

@@ -1,5 +1,5 @@
 -- Which actions share a worker key, as far as the list says.
-use Rattle.std.specs.Prelude.{ℕ, ◌==◌, ◌&&◌, not, if◌then◌else◌, List, [], ◌∷◌, ◌++◌, length, map, unwrap_or}
+use Rattle.std.specs.Prelude.{ℕ, ◌==◌, ◌&&◌, not, if◌then◌else◌, List, [], ◌∷◌, ◌++◌, length, map, unwrap_or, Option, Some, None}
 use Rattle.worker_key.specs.Keys.{canonical}
 use Rattle.worker_key.specs.declared.key.Mode.{Mode}
 use Rattle.worker_key.specs.declared.key.Mode.TheVariants as mode
@@ -64,6 +64,16 @@ keys_from keys (x ∷ xs) = keys_from (with_key keys x) xs
 -- the keys in the order of their first actions
 abbrev pub keys_of : List ListAction → List (List ℕ)
 keys_of xs = keys_from [] xs
+
+-- the keys with this one, where there is one
+abbrev pub with_held : List (List ℕ) → Option (List ℕ) → List (List ℕ)
+with_held keys None = keys
+with_held keys (Some bytes) = with_bytes keys bytes
+
+-- the different keys among these, in order, behind those that were there before
+abbrev pub keys_among : List (List ℕ) → List (Option (List ℕ)) → List (List ℕ)
+keys_among keys [] = keys
+keys_among keys (key ∷ rest) = keys_among (with_held keys key) rest
 
 abbrev pub keys_check : ℕ → List ListAction → Check
 keys_check limit xs = count_check what.Keys limit (length (keys_of xs))

@@ -6,3 +6,4 @@ pub mod Lists
 pub mod Parts
 pub mod Plans
 pub mod Top
+pub mod Uses

@@ -1,12 +1,13 @@
 // The worker keys that actions share, as far as the list gives them.
-ghost use Rattle.std.specs.Prelude.{◌≡◌, ◌≤◌, ◌+◌, length, IfOk, OnOk, map};
+ghost use Rattle.std.specs.Prelude.{◌≡◌, ◌≤◌, [], Some, is_some, length, map, position, IfOk, OnOk};
+ghost use Rattle.std.specs.Str.{bytes_eq};
 ghost use Rattle.list_actions.specs.Answers.{Settles};
 ghost use Rattle.action_list.specs.Checks.{has_local, has_remote};
-ghost use Rattle.action_list.specs.Keys.{key_bytes, keys_check, keys_of, list_key, mode_of, named_variable, unread_tool, with_key, worker_words};
-ghost use Rattle.action_list.specs.Plans.{local_key};
-ghost use Rattle.list_actions.specs.Order.{is_among};
+ghost use Rattle.action_list.specs.Keys.{key_bytes, keys_among, keys_check, keys_of, list_key, mode_of, named_variable, unread_tool, with_bytes, with_held, worker_words};
+ghost use Rattle.action_list.specs.Plans.{local_key, local_of, number_of};
 
 use crate::checks::check_count;
+use crate::table::KeyTable;
 use crate::{ListAction, ListRefusal, Strategy, What};
 use flag_files::{SplitFault, split_args};
 use plain_values::{Blob, Items, NoMemory, Text, Variable};
@@ -20,6 +21,8 @@ pub struct Keys {
     pub held: Items<Option<Blob>>,
     /// The different keys, in the order of their first actions.
     pub keys: Items<Blob>,
+    /// The place of each action's key among the different keys.
+    pub numbers: Items<Option<usize>>,
 }
 
 /// Checks that the actions with a local branch have at most `limit` keys.
@@ -30,7 +33,7 @@ pub fn check_keys(alloc: Global, limit: usize, actions: &[ListAction]) -> Result
     check_count(What::Keys, limit, made.keys.as_slice().len())
 }
 
-/// Returns the keys of these actions. Each action's key is computed once.
+/// Returns the keys of these actions. Each action's key is computed once, and looked up once.
 ///
 /// # Errors
 ///
@@ -39,43 +42,87 @@ pub fn keys_of(alloc: Global, actions: &[ListAction]) -> Result<Keys, NoMemory>
     ensures held { IfOk result (λ made. made.held ≡ map local_key actions.now) }
     ensures keys { IfOk result (λ made. made.keys ≡ keys_of actions.now) }
     ensures few { IfOk result (λ made. length made.keys ≤ length actions.now) }
+    ensures numbers { IfOk result (λ made. made.numbers ≡ map (local_of made.keys) actions.now) }
 {
-    let mut held = Vec::with_capacity(alloc, actions.len())?;
-    let mut keys = Vec::new(alloc);
-    for action in actions {
-        held.push(add_key(alloc, &mut keys, action)?)?;
-    }
+    let held = Items::of(local_keys(alloc, actions)?);
+    let (keys, numbers) = number_all(alloc, held.as_slice())?;
     Ok(Keys {
-        held: Items::of(held),
+        held,
         keys: Items::of(keys),
+        numbers: Items::of(numbers),
     })
 }
 
-// Returns the key of the action, if it has a local branch. The key is added, unless it is there.
-fn add_key(
-    alloc: Global,
-    keys: &mut Vec<Blob>,
-    action: &ListAction,
-) -> Result<Option<Blob>, NoMemory>
-    ensures key { IfOk result (λ key. key ≡ local_key action.now) }
-    ensures added { OnOk result (keys.new.items ≡ with_key keys.old.items action.now) }
-    ensures few { OnOk result (length keys.new.items ≤ length keys.old.items + 1) }
+fn local_keys(alloc: Global, actions: &[ListAction]) -> Result<Vec<Option<Blob>>, NoMemory>
+    ensures { IfOk result (λ v. v.items ≡ map local_key actions.now) }
 {
-    if !has_local(action.strategy) {
-        return Ok(None);
+    let mut held = Vec::with_capacity(alloc, actions.len())?;
+    for action in actions {
+        held.push(local_key(alloc, action)?)?;
     }
-    let key = Blob::of(alloc, key_bytes(alloc, action)?)?;
-    if !is_among(keys.as_slice(), key.bytes()) {
-        keys.push(key.again()?)?;
-    }
-    Ok(Some(key))
+    Ok(held)
 }
 
-// Returns true if these bytes are one of the keys.
-fn is_among(keys: &[Blob], bytes: &[u8]) -> bool
-    ensures { result ≡ is_among keys.now bytes.now }
+// Returns the key of the action, if it has a local branch.
+fn local_key(alloc: Global, action: &ListAction) -> Result<Option<Blob>, NoMemory>
+    ensures { IfOk result (λ key. key ≡ local_key action.now) }
 {
-    keys.iter().any(|key| key.bytes() == bytes)
+    if has_local(action.strategy) {
+        Ok(Some(Blob::of(alloc, key_bytes(alloc, action)?)?))
+    } else {
+        Ok(None)
+    }
+}
+
+// Returns the different keys, and the place of each of these keys among them.
+fn number_all(
+    alloc: Global,
+    held: &[Option<Blob>],
+) -> Result<(Vec<Blob>, Vec<Option<usize>>), NoMemory>
+    ensures keys { IfOk result (λ r. r.0.items ≡ keys_among [] held.now) }
+    ensures numbers { IfOk result
+        (λ r. r.1.items ≡ map (number_of (keys_among [] held.now)) held.now) }
+{
+    let mut table = KeyTable::new(alloc);
+    let mut keys = Vec::new(alloc);
+    let mut numbers = Vec::with_capacity(alloc, held.len())?;
+    for key in held {
+        numbers.push(number(&mut table, &mut keys, key)?)?;
+    }
+    Ok((keys, numbers))
+}
+
+// Returns the place of the key among the different keys. The key is added, unless it is there.
+fn number<'a>(
+    table: &mut KeyTable<'a>,
+    keys: &mut Vec<Blob>,
+    held: &'a Option<Blob>,
+) -> Result<Option<usize>, NoMemory>
+    ensures number { IfOk result (λ n. n ≡ number_of table.new held.now) }
+    ensures found { IfOk result (λ n. is_some n ≡ is_some held.now) }
+    ensures added { OnOk result (table.new ≡ with_held table.old held.now) }
+    ensures same { keys.old.items ≡ table.old → OnOk result (keys.new.items ≡ table.new) }
+{
+    match held {
+        None => Ok(None),
+        Some(key) => Ok(Some(number_key(table, keys, key)?)),
+    }
+}
+
+fn number_key<'a>(
+    table: &mut KeyTable<'a>,
+    keys: &mut Vec<Blob>,
+    key: &'a Blob,
+) -> Result<usize, NoMemory>
+    ensures number { IfOk result (λ n. position (λ k. bytes_eq k key.now) table.new ≡ Some n) }
+    ensures added { OnOk result (table.new ≡ with_bytes table.old key.now) }
+    ensures same { keys.old.items ≡ table.old → OnOk result (keys.new.items ≡ table.new) }
+{
+    let (number, is_new) = table.number(key.bytes())?;
+    if is_new {
+        keys.push(key.again()?)?;
+    }
+    Ok(number)
 }
 
 /// Returns true if the action may run on a worker.

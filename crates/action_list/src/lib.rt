@@ -10,6 +10,7 @@ mod made;
 mod needs;
 mod parts;
 mod planning;
+mod table;
 mod top;
 mod twin;
 

@@ -1,15 +1,15 @@
 // The plan of a list.
-ghost use Rattle.std.specs.Prelude.{◌≡◌, ◌≤◌, ◌++◌, ◌∷◌, [], List, length, map, position, slice_get, Some, IfOk, IfSome, OnOk, ◌<◌};
+ghost use Rattle.std.specs.Prelude.{◌≡◌, ◌≤◌, ◌++◌, ◌∷◌, [], ℕ, List, length, map, replicate, slice_get, slice_index_or, option_and_then, Some, IfOk, IfSome, OnOk, ◌<◌};
 ghost use Rattle.std.specs.Option.{option_copied};
-ghost use Rattle.std.specs.Str.{bytes_eq};
 ghost use Rattle.list_actions.specs.declared.types.ListAction.{ListAction};
 ghost use Rattle.action_list.specs.Keys.{keys_of};
-ghost use Rattle.action_list.specs.Plans.{AreFew, IsGreatest, berths_at, executor_groups, first_user, groups_of, is_key, key_group, kind_by, kind_of, local_key, number_of, plan_action, plan_actions, plan_of, remote_of, remote_users, share, users};
+ghost use Rattle.action_list.specs.Plans.{AreFew, IsGreatest, berths_at, executor_groups, groups_of, kind_by, kind_of, local_key, local_of, plan_action, plan_actions, plan_of, remote_of, remote_users, share};
+ghost use Rattle.action_list.specs.Uses.{no_use, one_more, used_group, uses_of, with_use};
 ghost use Rattle.list_actions.specs.Whole.{IsWhole, KnowsProducers};
 ghost use Rattle.run_plan.specs.Sound.{Sound};
 ghost use Rattle.run_plan.specs.Limits.{most_actions, most_local_berths, most_remote_berths};
 
-use crate::keys::{has_remote, keys_of, mode_of};
+use crate::keys::{Keys, has_remote, keys_of, mode_of};
 use crate::{ActionList, ListAction, Producers};
 use plain_values::{Blob, Items, NoMemory, Text, texts_again};
 use run_plan::{Group, Kind, MOST_LOCAL_BERTHS, Plan, PlanAction};
@@ -38,30 +38,71 @@ fn berths_at(counts: &[u32], each: u32) -> u32
     counts.iter().map(|count| each.min(*count)).sum()
 }
 
-fn is_key(key: &[u8], held: &Option<Blob>) -> bool
-    ensures { result ≡ is_key key.now held.now }
+// How many actions have a key, and which of them is first.
+#[derive(Clone, Copy)]
+struct KeyUse {
+    users: u32,
+    first: Option<usize>,
+}
+
+// Returns how each of `count` keys is used. It takes one pass over the actions' numbers.
+fn uses_of(alloc: Global, numbers: &[Option<usize>], count: usize) -> Result<Vec<KeyUse>, NoMemory>
+    requires { length numbers.now ≤ most_actions }
+    ensures { IfOk result (λ v. v.items ≡ uses_of count numbers.now) }
 {
-    match held {
-        None => false,
-        Some(bytes) => key == bytes.bytes(),
+    let mut uses = no_uses(alloc, count)?;
+    let mut index = 0;
+    for number in numbers {
+        note_use(&mut uses, *number, index);
+        index += 1;
+    }
+    Ok(uses)
+}
+
+fn no_uses(alloc: Global, count: usize) -> Result<Vec<KeyUse>, NoMemory>
+    ensures { IfOk result (λ v. v.items ≡ replicate count no_use) }
+{
+    let mut uses = Vec::with_capacity(alloc, count)?;
+    for _key in 0..count {
+        uses.push(KeyUse {
+            users: 0,
+            first: None,
+        })?;
+    }
+    Ok(uses)
+}
+
+// Notes that the action with this index has the key with this number.
+fn note_use(uses: &mut [KeyUse], number: Option<usize>, index: usize)
+    requires few { (n : ℕ) → (slice_index_or uses.old n no_use).users < most_actions }
+    ensures { uses.new ≡ with_use uses.old number index }
+{
+    if let Some(number) = number
+        && number < uses.len()
+    {
+        uses[number] = one_more(uses[number], index);
     }
 }
 
-/// Returns the number of actions with the key.
-fn users(held: &[Option<Blob>], key: &[u8]) -> u32
-    requires { length held.now ≤ most_actions }
-    ensures { result ≡ users held.now key.now }
+fn one_more(one: KeyUse, index: usize) -> KeyUse
+    requires { one.users < most_actions }
+    ensures { result ≡ one_more one index }
 {
-    held.iter().filter(|one| is_key(key, one)).count() as u32
+    KeyUse {
+        users: one.users + 1,
+        first: match one.first {
+            Some(first) => Some(first),
+            None => Some(index),
+        },
+    }
 }
 
-fn all_users(alloc: Global, held: &[Option<Blob>], keys: &[Blob]) -> Result<Vec<u32>, NoMemory>
-    requires { length held.now ≤ most_actions }
-    ensures { IfOk result (λ v. v.items ≡ map (users held.now) keys.now) }
+fn all_users(alloc: Global, uses: &[KeyUse]) -> Result<Vec<u32>, NoMemory>
+    ensures { IfOk result (λ v. v.items ≡ map (λ u. u.users) uses.now) }
 {
     let mut counts = Vec::new(alloc);
-    for key in keys {
-        counts.push(users(held, key.bytes()))?;
+    for one in uses {
+        counts.push(one.users)?;
     }
     Ok(counts)
 }
@@ -79,31 +120,20 @@ fn remote_users(actions: &[ListAction]) -> u32
     count
 }
 
-fn first_user<'a>(
-    actions: &'a [ListAction],
-    held: &[Option<Blob>],
-    key: &[u8],
-) -> Option<&'a ListAction>
-    ensures { option_copied result ≡ first_user actions.now held.now key.now }
+fn first_user<'a>(actions: &'a [ListAction], one: &KeyUse) -> Option<&'a ListAction>
+    ensures { option_copied result ≡ option_and_then (slice_get actions.now) one.now.first }
 {
-    match first_index(held, key) {
+    match one.first {
         None => None,
         Some(index) => actions.get(index),
     }
 }
 
-fn first_index(held: &[Option<Blob>], key: &[u8]) -> Option<usize>
-    ensures { result ≡ position (is_key key.now) held.now }
+fn key_group(actions: &[ListAction], each: u32, one: &KeyUse) -> Group
+    ensures { result ≡ used_group actions.now each one.now }
 {
-    held.iter().position(|one| is_key(key, one))
-}
-
-fn key_group(actions: &[ListAction], held: &[Option<Blob>], each: u32, key: &[u8]) -> Group
-    requires { length held.now ≤ most_actions }
-    ensures { result ≡ key_group actions.now held.now each key.now }
-{
-    let berths = each.min(users(held, key));
-    match first_user(actions, held, key) {
+    let berths = each.min(one.users);
+    match first_user(actions, one) {
         None => Group {
             kind: Kind::Single,
             cancel: false,
@@ -136,22 +166,23 @@ fn kind_by(mode: Mode) -> Kind
 fn groups_of(
     alloc: Global,
     actions: &[ListAction],
-    held: &[Option<Blob>],
-    keys: &[Blob],
+    made: &Keys,
     instances: u32,
     remote: u32,
 ) -> Result<Items<Group>, NoMemory>
-    requires actions { length actions.now ≤ most_actions }
-    requires held { length held.now ≤ most_actions }
-    requires keys { length keys.now ≤ most_actions }
+    requires whole { IsWhole actions.now }
+    requires keys { made.now.keys ≡ keys_of actions.now }
+    requires numbers { made.now.numbers ≡ map (local_of made.now.keys) actions.now }
+    requires few { length made.now.keys ≤ length actions.now }
     requires instances { instances ≤ most_local_berths }
-    ensures { IfOk result
-        (λ g. g ≡ groups_of actions.now held.now keys.now instances remote) }
+    ensures { IfOk result (λ g.
+        g ≡ groups_of actions.now (map local_key actions.now) made.now.keys instances remote) }
 {
-    let counts = all_users(alloc, held, keys)?;
+    let uses = uses_of(alloc, made.numbers.as_slice(), made.keys.as_slice().len())?;
+    let counts = all_users(alloc, uses.as_slice())?;
     let each = share(counts.as_slice(), instances);
     let mut groups = Vec::new(alloc);
-    push_key_groups(&mut groups, actions, held, keys, each)?;
+    push_key_groups(&mut groups, actions, uses.as_slice(), each)?;
     push_executor(&mut groups, remote.min(remote_users(actions)))?;
     Ok(Items::of(groups))
 }
@@ -159,17 +190,14 @@ fn groups_of(
 fn push_key_groups(
     groups: &mut Vec<Group>,
     actions: &[ListAction],
-    held: &[Option<Blob>],
-    keys: &[Blob],
+    uses: &[KeyUse],
     each: u32,
 ) -> Result<(), NoMemory>
-    requires { length held.now ≤ most_actions }
     ensures { OnOk result
-        (groups.new.items ≡ groups.old.items ++ map
-        (key_group actions.now held.now each) keys.now) }
+        (groups.new.items ≡ groups.old.items ++ map (used_group actions.now each) uses.now) }
 {
-    for key in keys {
-        groups.push(key_group(actions, held, each, key.bytes()))?;
+    for one in uses {
+        groups.push(key_group(actions, each, one))?;
     }
     Ok(())
 }
@@ -190,19 +218,20 @@ fn push_executor(groups: &mut Vec<Group>, berths: u32) -> Result<(), NoMemory>
 fn plan_actions(
     alloc: Global,
     actions: &[ListAction],
-    held: &[Option<Blob>],
-    keys: &[Blob],
+    made: &Keys,
 ) -> Result<Items<PlanAction>, NoMemory>
-    requires held { held.now ≡ map local_key actions.now }
-    requires keys { length keys.now ≤ most_actions }
+    requires numbers { made.now.numbers ≡ map (local_of made.now.keys) actions.now }
+    requires keys { length made.now.keys ≤ most_actions }
     requires whole { IsWhole actions.now }
-    ensures { IfOk result (λ p. p ≡ plan_actions keys.now [] actions.now) }
+    ensures { IfOk result (λ p. p ≡ plan_actions made.now.keys [] actions.now) }
 {
+    let keys = made.keys.as_slice();
+    let numbers = made.numbers.as_slice();
     let mut producers = Producers::new(alloc);
     let mut planned = Vec::new(alloc);
     let mut number = 0;
     for action in actions {
-        let key = held_at(held, number);
+        let key = number_at(numbers, number);
         planned.push(plan_action(alloc, keys, &producers, action, key)?)?;
         note_outputs(alloc, &mut producers, number, action)?;
         number += 1;
@@ -210,13 +239,13 @@ fn plan_actions(
     Ok(Items::of(planned))
 }
 
-// Returns the key of the action with this number.
-fn held_at(held: &[Option<Blob>], number: u32) -> &Option<Blob>
-    requires { number < length held.now }
-    ensures { slice_get held.now number ≡ Some result.now }
+// Returns the number of the key of the action with this number.
+fn number_at(numbers: &[Option<usize>], number: u32) -> Option<usize>
+    requires { number < length numbers.now }
+    ensures { slice_get numbers.now number ≡ Some result }
 {
-    match held.get(number as usize) {
-        Some(key) => key,
+    match numbers.get(number as usize) {
+        Some(key) => *key,
         None => unreachable!(),
     }
 }
@@ -240,9 +269,9 @@ fn plan_action(
     keys: &[Blob],
     producers: &Producers,
     action: &ListAction,
-    held: &Option<Blob>,
+    key: Option<usize>,
 ) -> Result<PlanAction, NoMemory>
-    requires held { held.now ≡ local_key action.now }
+    requires key { key ≡ local_of keys.now action.now }
     requires keys { length keys.now ≤ most_actions }
     ensures { (before : List ListAction) → KnowsProducers producers.now before
         → IfOk result (λ p. p ≡ plan_action keys.now before action.now) }
@@ -251,36 +280,19 @@ fn plan_action(
         name: Text::copy_of(alloc, action.name.as_str())?,
         outputs: texts_again(alloc, action.outputs.as_slice())?,
         makers: producers.makers_of(alloc, action.inputs.as_slice())?,
-        local: number_of(keys, held),
+        local: group_number(key),
         remote: remote_of(keys, action),
     })
 }
 
-fn number_of(keys: &[Blob], held: &Option<Blob>) -> Option<u32>
-    requires { length keys.now ≤ most_actions }
-    ensures { result ≡ number_of keys.now held.now }
+fn group_number(key: Option<usize>) -> Option<u32>
+    requires { IfSome key (λ n. n < most_actions) }
+    ensures { result ≡ key }
 {
-    match held {
+    match key {
         None => None,
-        Some(bytes) => producer_among(keys, bytes.bytes()),
+        Some(number) => Some(number as u32),
     }
-}
-
-fn producer_among(keys: &[Blob], bytes: &[u8]) -> Option<u32>
-    requires { length keys.now ≤ most_actions }
-    ensures { result ≡ position (λ key. bytes_eq key bytes.now) keys.now }
-{
-    match index_among(keys, bytes) {
-        None => None,
-        Some(index) => Some(index as u32),
-    }
-}
-
-fn index_among(keys: &[Blob], bytes: &[u8]) -> Option<usize>
-    ensures place { result ≡ position (λ key. bytes_eq key bytes.now) keys.now }
-    ensures within { IfSome result (λ i. i < length keys.now) }
-{
-    keys.iter().position(|key| key.bytes() == bytes)
 }
 
 fn remote_of(keys: &[Blob], action: &ListAction) -> Option<u32>
@@ -322,11 +334,9 @@ pub fn plan(
 {
     let actions = list.actions.as_slice();
     let made = keys_of(alloc, actions)?;
-    let held = made.held.as_slice();
-    let keys = made.keys.as_slice();
     Ok(Plan {
-        actions: plan_actions(alloc, actions, held, keys)?,
-        groups: groups_of(alloc, actions, held, keys, instances, remote)?,
+        actions: plan_actions(alloc, actions, &made)?,
+        groups: groups_of(alloc, actions, &made, instances, remote)?,
         limit: retries + 1,
     })
 }

@@ -1,5 +1,5 @@
 -- Which faults a path has, and which of them is answered.
-use Rattle.std.specs.Prelude.{ℕ, Bool, List, [], ◌∷◌, Option, Some, None, Result, Ok, Err, length, nat_lt, nat_eq, ◌==◌, ◌||◌, codes, find}
+use Rattle.std.specs.Prelude.{ℕ, Bool, not, List, [], ◌∷◌, Option, Some, None, Result, Ok, Err, length, nat_lt, nat_eq, ◌==◌, ◌&&◌, ◌||◌, codes, find}
 use Rattle.std.specs.List.{slice_split, before_first, list_any, starts_with}
 use Rattle.std.specs.Str.{bytes_eq}
 use Rattle.path_rules.specs.declared.PathFault.{PathFault}
@@ -49,3 +49,10 @@ path_fault path = find (has_fault path) faults_in_order
 abbrev pub checked : Option PathFault → Result (Unit {0}) PathFault
 checked None = Ok tt
 checked (Some f) = Err f
+
+-- No byte is zero, and each segment that begins here or later begins with a byte that is no dot. The
+-- first byte begins a segment where the first argument is true.
+abbrev pub is_plain_from : Bool → List ℕ → Bool
+is_plain_from begins [] = not begins
+is_plain_from begins (b ∷ bs) =
+    not (b == 0 || begins && (b == 47 || b == 46)) && is_plain_from (b == 47) bs

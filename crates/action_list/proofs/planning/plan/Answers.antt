@@ -4,13 +4,11 @@ use Rattle.action_list.proofs.PlanLemmas.{plan_of-planned, whole_plan}
 use Rattle.action_list.proofs.SoundActions.{planned, sound_plan}
 use Rattle.action_list.proofs.planning.plan.Goals as goal
 
-made : (c : goal.After-drop-made-3)
+made : (c : goal.After-drop-made-4)
     → record { actions = c.in_ok-plan_actions.field-0; groups = c.in_ok-groups_of.field-0; limit = c.args.retries + 1 } ≡ planned c.args.list.now.actions c.args.instances c.args.remote c.args.retries
 made c =
-    whole_plan c.args.list.now.actions c.args.instances c.args.remote c.args.retries
-    c.as_slice-held.result.now c.as_slice-keys.result.now _ _
-    (c.as_slice-held.ensures ∙ (rw c.as_slice-actions.ensures at c.in_ok-made.ensures.held))
-    (c.as_slice-keys.ensures ∙ (rw c.as_slice-actions.ensures at c.in_ok-made.ensures.keys))
+    whole_plan c.args.list.now.actions c.args.instances c.args.remote c.args.retries c.in_ok-made.made.keys _ _
+    (rw c.as_slice-actions.ensures at c.in_ok-made.ensures.keys)
     (rw c.as_slice-actions.ensures at c.in_ok-plan_actions.ensures)
     (rw c.as_slice-actions.ensures at c.in_ok-groups_of.ensures)
 

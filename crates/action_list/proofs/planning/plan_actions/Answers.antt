@@ -1,34 +1,41 @@
 use Rattle.std.proofs.Common.{◌≡◌, ◌++◌, ◌∷◌, [], ◌+◌, take, drop, length, Some, sym, ap, subst, ◌∙◌, append_assoc, arith}
 use Rattle.std.specs.Prelude.{slice_get}
 use Rattle.std.proofs.lemmas.List.{length-map, length-take-le}
-use Rattle.action_list.specs.Plans.{local_key, plan_action, plan_actions}
+use Rattle.action_list.specs.Plans.{local_of, plan_action, plan_actions}
 use Rattle.list_actions.specs.Whole.{KnowsProducers}
 use Rattle.list_actions.proofs.Orders.{take_this, drop_this}
 use Rattle.action_list.proofs.Maps.{mapped_at}
 use Rattle.action_list.proofs.planning.plan_actions.Goals as goal
 
-pub held_at-key-requires : goal.held_at-key-requires
-held_at-key-requires c = rw c.requires.held (omega (arith, length-map c.args.actions.now local_key))
+pub number_at-key-requires : goal.number_at-key-requires
+number_at-key-requires c =
+    let long = ap length (c.as_slice-numbers.ensures ∙ c.requires.numbers) in
+    let mapped = length-map c.args.actions.now (local_of c.args.made.now.keys) in
+    let counted = c.loop-action.invariant.counted in
+    let below = c.loop-action-test.true in
+    omega (arith, long, mapped, counted, below)
 
-pub plan_action-requires-clause-held : goal.plan_action-requires-clause-held
-plan_action-requires-clause-held c =
-    let key = c.held_at-key.result.now in
-    mapped_at local_key c.args.actions.now c.loop-action.action-index c.action-item.result key
+pub plan_action-requires-clause-key : goal.plan_action-requires-clause-key
+plan_action-requires-clause-key c =
+    let keys = c.args.made.now.keys in
+    let key = c.number_at-key.result in
+    mapped_at (local_of keys) c.args.actions.now c.loop-action.action-index c.action-item.result key
     c.loop-action-test.true c.action-item.is
-    (subst (λ hs. slice_get hs c.loop-action.action-index ≡ Some key) c.requires.held
-    (subst (λ n. slice_get c.args.held.now n ≡ Some key) c.loop-action.invariant.counted c.held_at-key.ensures))
+    (subst (λ ns. slice_get ns c.loop-action.action-index ≡ Some key) (c.as_slice-numbers.ensures ∙ c.requires.numbers)
+    (subst (λ n. slice_get c.as_slice-numbers.result.now n ≡ Some key) c.loop-action.invariant.counted c.number_at-key.ensures))
+    ∙ ap (λ ks. local_of ks c.action-item.result) (sym c.as_slice-keys.ensures)
 
 pub loop-action-preserved : goal.loop-action-preserved
 loop-action-preserved c =
     let i = c.loop-action.action-index in
     let xs = c.args.actions.now in
     let x = c.action-item.result in
-    let keys = c.args.keys.now in
+    let keys = c.args.made.now.keys in
     let number : c.loop-action.number ≡ length (take i xs) = omega (arith, length-take-le i xs (omega arith)) in
     let this = take_this xs i x c.loop-action-test.true c.action-item.is in
     let rest = drop_this xs i x c.loop-action-test.true c.action-item.is in
     let later = plan_actions keys (take (i + 1) xs) (drop (i + 1) xs) in
-    let now = c.in_ok-plan_action.ensures (take i xs) c.loop-action.invariant.known in
+    let now = rw c.as_slice-keys.ensures at (c.in_ok-plan_action.ensures (take i xs) c.loop-action.invariant.known) in
     let pushed = rw now at c.in_ok-push.ensures.items in
     record {
       counted = omega arith;

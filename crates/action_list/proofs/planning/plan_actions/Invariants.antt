@@ -7,5 +7,5 @@ abbrev pub invariant-loop-action : goal.invariant-loop-action
 invariant-loop-action l = record {
   counted : l.number ≡ l.action-index;
   known : KnowsProducers l.producers (take l.action-index l.actions);
-  made : l.planned.items ++ plan_actions l.keys (take l.action-index l.actions) (drop l.action-index l.actions) ≡ plan_actions l.keys [] l.actions;
+  made : l.planned.items ++ plan_actions l.made.keys (take l.action-index l.actions) (drop l.action-index l.actions) ≡ plan_actions l.made.keys [] l.actions;
 }
