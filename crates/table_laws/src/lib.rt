@@ -4,8 +4,6 @@
 
 mod laws;
 
-pub use laws::all_facts;
-
 ghost use Rattle.std.specs.Prelude.{◌≡◌, ◌<◌, ◌⊎◌, ◌&&◌, not, ℕ, ℤ, List, [], ◌∷◌, Some, None, true, false};
 ghost use Rattle.exec_journal.specs.declared.attempt.Attempt.{Attempt};
 ghost use Rattle.exec_journal.specs.declared.call.Answer.{Answer};
@@ -38,6 +36,8 @@ ghost use Rattle.worker_pool.specs.Entries as pool;
 ghost use Rattle.request_table.specs.Entries as table;
 ghost use Rattle.cancel_rules.specs.Entries as rules;
 ghost use Rattle.table_laws.specs.Asked.{is_commit, lines_bound_for, EndsOne};
+
+pub use laws::all_facts;
 
 /// Exactly one attempt ends with each of these entries: a refused Claim, a Launched with a fault,
 /// and a Wrote which reports that its request wasn't written. The same holds for a Wrote with
