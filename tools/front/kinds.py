@@ -15,9 +15,7 @@ from .voice import plural, quoted
 WORKERS = os.path.join(os.path.dirname(os.path.dirname(os.path.realpath(__file__))), "workers")
 # Node can't move descriptors, so a shell puts the answers elsewhere than what is printed.
 NODE = ["/bin/sh", "-c", 'exec "$@" 3>&1 1>&2', "sh"]
-NEEDS = {"supports-workers": "1"}
-LINES = {**NEEDS, "requires-worker-protocol": "json"}
-KOTLIN = "/usr/share/kotlin/kotlinc"
+NEEDS = {"supports-workers": "1", "requires-worker-protocol": "json"}
 LEFT_OUT = (STATE, ".worker_rooms", "node_modules", "flags", "out", ".git")
 
 
@@ -30,18 +28,6 @@ class Kind(NamedTuple):
     start: Callable[[], list[str]]
     env: dict[str, str]
     actions: Callable[[list[str], list[str]], Iterator[tuple[str, list[str], list[str], list[str]]]]
-    needs: dict[str, str] = LINES
-
-
-def jvm_start(tool: str, *jars: str) -> list[str]:
-    """Returns the words that start the worker of a compiler whose jars are at these places."""
-    java = shutil.which("java")
-    found = [sorted(glob.glob(it)) for it in jars]
-    if java is None or not all(found):
-        raise Unwanted("java isn't there" if java is None else f"{next(it for it, paths in zip(jars, found) if not paths)} isn't there")
-    places = ":".join(it for paths in found for it in paths)
-    return [java, "-XX:+UseSerialGC", "-XX:TieredStopAtLevel=1", "-Xss8m", "-Dkotlin.environment.keepalive=true", "-cp", places,
-            os.path.join(WORKERS, "JvmWorker.java"), tool]
 
 
 def node_start(worker: str, name: str, place: str) -> list[str]:
@@ -59,14 +45,6 @@ def tsc_actions(sources: list[str], settings: list[str]) -> Iterator[tuple[str, 
     yield "tsc", words, [*sources, *settings], made
 
 
-def jvm_actions(tool: str, *own: str) -> Callable[[list[str], list[str]], Iterator[tuple[str, list[str], list[str], list[str]]]]:
-    """Returns a function that yields one action: the whole program as one jar."""
-    def actions(sources: list[str], settings: list[str]) -> Iterator[tuple[str, list[str], list[str], list[str]]]:
-        yield tool, ["--jar=out/program.jar", *own, *sources], [*sources, *settings], ["out/program.jar"]
-
-    return actions
-
-
 def eslint_actions(sources: list[str], settings: list[str]) -> Iterator[tuple[str, list[str], list[str], list[str]]]:
     """Yields an action for each source, whose output is the report."""
     for it in sources:
@@ -80,10 +58,6 @@ KINDS = {
     "eslint": Kind((".js",), (".eslintrc.json", ".eslintrc.js", ".eslintrc", "package.json"), "eslint",
                    lambda: node_start("eslint_worker.js", "ESLINT", "/usr/share/nodejs/eslint"),
                    {"PATH": "/usr/bin:/bin", "NODE_PATH": "/usr/share/nodejs", "HOME": "/nonexistent"}, eslint_actions),
-    "scalac": Kind((".scala",), (), "scala", lambda: jvm_start("scalac", "/usr/share/scala-2.11/lib/*.jar"),
-                   {"PATH": "/usr/bin:/bin"}, jvm_actions("scalac", "-usejavacp"), NEEDS),
-    "kotlinc": Kind((".kt",), (), "kotlin", lambda: jvm_start("kotlinc", f"{KOTLIN}/lib/kotlin-compiler.jar", "/usr/share/java/libtrove-intellij.jar"),
-                    {"PATH": "/usr/bin:/bin"}, jvm_actions("kotlinc", "-kotlin-home", KOTLIN), NEEDS),
 }
 
 
@@ -113,7 +87,7 @@ def init_kind(name: str, folder: str) -> int:
     if not sources:
         raise Unwanted(f"there is no {' or '.join(kind.endings)} below {folder}; nothing was written")
     env = {**kind.env, **{it: os.environ[it] for it in ("TSC", "ESLINT", "NODE_PATH") if it in os.environ}}
-    objects = [action_of(name, kind, start, env, *it) for it in kind.actions(sources, settings)]
+    objects = [action_of(name, start, env, *it) for it in kind.actions(sources, settings)]
     for it in objects:
         for key in ("inputs", "outputs"):
             if len(it[key]) >= MOST[key]:  # an input more will be its words
@@ -133,8 +107,7 @@ def init_kind(name: str, folder: str) -> int:
     return 0
 
 
-def action_of(name: str, kind: Kind, start: list[str], env: dict[str, str], source: str, _: list[str], inputs: list[str],
-              outputs: list[str]) -> dict[str, Any]:
+def action_of(name: str, start: list[str], env: dict[str, str], source: str, _: list[str], inputs: list[str], outputs: list[str]) -> dict[str, Any]:
     """Returns an action, still without its flag file."""
     return {"name": source.replace(" ", "_"), "mnemonic": name.capitalize(), "argv": [*start], "env": env, "inputs": [*inputs], "outputs": outputs,
-            "requirements": kind.needs}
+            "requirements": NEEDS}
