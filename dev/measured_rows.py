@@ -238,18 +238,18 @@ def several_rooms() -> list[Row]:
 
 
 def front() -> list[Row]:
-    """Returns rows of the front: a list by worker_tool, by the front without and with watchers, and 4,000 actions that are up to date."""
-    lenthuvi = str(TOP / "tools" / "lenthuvi")
-    write_list("plain", copies(1000))
+    """Returns rows of 4,000 actions by worker_tool, by the front without and with watchers, and by the front if all are up to date."""
+    lenthuvi, count = str(TOP / "tools" / "lenthuvi"), 4000
+    write_list("plain", copies(count))
     os.mkdir("idle")
     os.chdir("idle")
-    write_list("list", copies(4000))
+    write_list("list", copies(count))
     subprocess.run([lenthuvi, "build", "-q", "--plain"], stdout=subprocess.DEVNULL, stderr=subprocess.DEVNULL, check=False)
     os.chdir("..")
     return [
-        tool("the list by `worker_tool` itself", "--instances=4 plain.json", 1000, 1000),
-        Row("`lenthuvi run --plain`, four workers", (lenthuvi, "run", "-q", "-j4", "--plain", "plain.json"), 1000, outputs=1000),
-        Row("`lenthuvi run`, four workers, watched", (lenthuvi, "run", "-q", "-j4", "plain.json"), 1000, outputs=1000),
+        tool("the list by `worker_tool` itself", "--instances=4 plain.json", count, count),
+        Row("`lenthuvi run --plain`, four workers", (lenthuvi, "run", "-q", "-j4", "--plain", "plain.json"), count, outputs=count),
+        Row("`lenthuvi run`, four workers, watched", (lenthuvi, "run", "-q", "-j4", "plain.json"), count, outputs=count),
         Row("`lenthuvi build`, 4,000 actions, nothing to do", ("/bin/sh", "-c", f"cd idle && exec {lenthuvi} build -q"), 1, unit="run"),
     ]
 
