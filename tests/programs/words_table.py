@@ -34,7 +34,7 @@ BROKEN = [
     ("worker_tool", "a --generate=1", "there is one list or one --generate, and 2 are named"),
     ("worker_tool", "--retries=1 --extra_flag=a --extra_flag=b --remote=2 --retries=2 l", "--retries stands once at most"),
     ("journal_run", "a b c", "there is one list or one --generate, and 3 are named"),
-    ("shared_tool", "--max_workers=2", "there is one list, and none is named"),
+    ("shared_tool", "--max_workers=2 --retries=1", "there is one list, and none is named"),
     ("shared_tool", "l", "there is one --max_workers=N"),
     ("shared_tool", "--max_workers=2 --max_workers=3 l", "there is one --max_workers=N"),
     ("spawn_tool", "a b --sandboxed=2", "there is one list, and 2 are named"),
