@@ -5,3 +5,4 @@ pub mod Lines
 pub mod Quiet
 pub mod Begins
 pub mod Parts
+pub mod Same

@@ -59,11 +59,12 @@ send_kept p j e l n a b =
     && (is_gathered_out j (e.lane / 2)
     && nat_le (length (pending (e ∷ j) l)) (capacity (line_kind p j l))))
 
-abbrev pub same_why : Why → Why → Bool
-same_why why.Ended why.Ended = true
-same_why why.Breach why.Breach = true
-same_why why.Feed why.Feed = true
-same_why _ _ = false
+-- the cause of a line's break is the Kill's reason; a break has no other cause than these three
+abbrev pub is_cause_of_kill : Why → Why → Bool
+is_cause_of_kill why.Ended why.Ended = true
+is_cause_of_kill why.Breach why.Breach = true
+is_cause_of_kill why.Feed why.Feed = true
+is_cause_of_kill _ _ = false
 
 abbrev pub is_none_pending : List Entry → ℕ → Bool
 is_none_pending j l = length (pending j l) == 0
@@ -80,7 +81,7 @@ kill_kept p j l why.Unwanted =
     is_single (line_kind p j l) && (not (has_cancellation p (line_group p j l)) && has_unwanted p j l)
 kill_kept p j l why.Quit = is_over p j
 kill_kept p j l why.Evicted = evict_kept p j l
-kill_kept p j l y = unwrap_or (option_map (λ c. same_why (why_of c) y) (line_cause j l)) false
+kill_kept p j l y = unwrap_or (option_map (λ c. is_cause_of_kill (why_of c) y) (line_cause j l)) false
 
 -- a Cancel: its group has cancellation or its line has greeted, and its request is pending, isn't
 -- wanted and has no earlier Cancel

@@ -17,3 +17,5 @@ pub mod Clean
 pub mod Outcomes
 pub mod Ends
 pub mod Facts
+pub mod Same
+pub mod Idle

@@ -12,6 +12,17 @@ pub struct Attempt {
 }
 
 impl Attempt {
+    /// Returns the attempt with this number, of this branch of this action.
+    pub fn of(action: u32, branch: Branch, number: u32) -> Attempt
+        ensures { result ≡ attempt_of action branch number }
+    {
+        Attempt {
+            action,
+            branch,
+            number,
+        }
+    }
+
     /// Returns true if it is this attempt.
     pub fn is(self, action: u32, branch: Branch, number: u32) -> bool
         ensures { result ≡ same_attempt (attempt_of action branch number) self }

@@ -253,7 +253,7 @@ send_kept_so p e j l x sound legal sent to =
 launch_kept_so : (p : Plan) (j : List Entry) (w : ℕ) → Lawful p j → r.is_vacant j (last_line j w) ≡ true → NoneBefore p j w → kp.launch_kept j w ≡ true
 launch_kept_so p j w legal vacant none = and_from _ _ vacant (and_from _ _ (va.vacant_room p j w legal vacant) (rw none.no_gather refl))
 
-same_reason : (c : Cause) → kp.same_why (why_of c) (why_of c) ≡ true
+same_reason : (c : Cause) → kp.is_cause_of_kill (why_of c) (why_of c) ≡ true
 same_reason cause.Breach = refl
 same_reason cause.Feed = refl
 same_reason _ = refl

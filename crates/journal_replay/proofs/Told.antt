@@ -5,65 +5,14 @@ use Rattle.std.proofs.lemmas.Bool.{eqb-true, eq-eqb, and_parts, and_from}
 use Rattle.std.proofs.lemmas.Bool.Decides.{Decides-int_eq}
 use Rattle.exec_journal.specs.declared.attempt.Attempt.{Attempt}
 use Rattle.exec_journal.specs.declared.reply.BreachWhy.{BreachWhy}
-use Rattle.exec_journal.specs.declared.reply.BreachWhy.TheVariants as breach
 use Rattle.exec_journal.specs.declared.reply.Reply.{Reply}
 use Rattle.exec_journal.specs.declared.reply.Reply.TheVariants as reply
 use Rattle.exec_journal.specs.declared.reply.StrayWhy.{StrayWhy}
-use Rattle.exec_journal.specs.declared.reply.StrayWhy.TheVariants as stray
 use Rattle.exec_journal.specs.declared.reply.Why.{Why}
-use Rattle.exec_journal.specs.declared.reply.Why.TheVariants as why
 use Rattle.exec_journal.specs.Entries.{attempt_of, is_kept}
 use Rattle.exec_journal.proofs.Begins.{same_attempt_eq, same_attempt_refl}
-use Rattle.journal_replay.specs.Same.{is_breach, is_cancel, is_gather, is_kill, is_late, is_launch, is_line, is_matched, is_send, is_stray, is_told, is_stop, is_noted, is_granted, is_lost, is_dropped, is_again_later, is_greeted, same_breach, same_flag, same_stray, same_why}
-
-flag_eq : (x y : Bool) → same_flag x y ≡ true → x ≡ y
-flag_eq true true h = refl
-flag_eq false false h = refl
-flag_eq true false h = absurd (cc)
-flag_eq false true h = absurd (cc)
-
-flag_refl : (x : Bool) → same_flag x x ≡ true
-flag_refl true = refl
-flag_refl false = refl
-
-why_eq : (x y : Why) → same_why x y ≡ true → x ≡ y
-why_eq why.Ended why.Ended h = refl
-why_eq why.Breach why.Breach h = refl
-why_eq why.Feed why.Feed h = refl
-why_eq why.Unwanted why.Unwanted h = refl
-why_eq why.Quit why.Quit h = refl
-why_eq why.Evicted why.Evicted h = refl
-why_eq _ _ h = absurd (cc)
-
-why_refl : (x : Why) → same_why x x ≡ true
-why_refl why.Ended = refl
-why_refl why.Breach = refl
-why_refl why.Feed = refl
-why_refl why.Unwanted = refl
-why_refl why.Quit = refl
-why_refl why.Evicted = refl
-
-stray_eq : (x y : StrayWhy) → same_stray x y ≡ true → x ≡ y
-stray_eq stray.Never stray.Never h = refl
-stray_eq stray.Closed stray.Closed h = refl
-stray_eq _ _ h = absurd (cc)
-
-stray_refl : (x : StrayWhy) → same_stray x x ≡ true
-stray_refl stray.Never = refl
-stray_refl stray.Closed = refl
-
-breach_eq : (x y : BreachWhy) → same_breach x y ≡ true → x ≡ y
-breach_eq breach.Broken breach.Broken h = refl
-breach_eq breach.WrongNumber breach.WrongNumber h = refl
-breach_eq breach.Unasked breach.Unasked h = refl
-breach_eq breach.NotCancelled breach.NotCancelled h = refl
-breach_eq _ _ h = absurd (cc)
-
-breach_refl : (x : BreachWhy) → same_breach x x ≡ true
-breach_refl breach.Broken = refl
-breach_refl breach.WrongNumber = refl
-breach_refl breach.Unasked = refl
-breach_refl breach.NotCancelled = refl
+use Rattle.exec_journal.proofs.Same.{flag_eq, flag_refl, why_eq, why_refl, stray_eq, stray_refl, breach_eq, breach_refl}
+use Rattle.journal_replay.specs.Same.{is_breach, is_cancel, is_gather, is_kill, is_late, is_launch, is_line, is_matched, is_send, is_stray, is_told, is_stop, is_noted, is_granted, is_lost, is_dropped, is_again_later, is_greeted}
 
 int_same : (m n : ℤ) → int_eq m n ≡ true → m ≡ n
 int_same m n h = (Decides-int_eq m n).0 h

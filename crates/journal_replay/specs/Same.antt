@@ -3,38 +3,12 @@ use Rattle.std.specs.Prelude.{ℕ, ℤ, ◌==◌, Bool, true, false, ◌&&◌, i
 use Rattle.std.specs.Ordering.{int_eq}
 use Rattle.exec_journal.specs.declared.attempt.Attempt.{Attempt}
 use Rattle.exec_journal.specs.declared.reply.BreachWhy.{BreachWhy}
-use Rattle.exec_journal.specs.declared.reply.BreachWhy.TheVariants as breach
 use Rattle.exec_journal.specs.declared.reply.Reply.{Reply}
 use Rattle.exec_journal.specs.declared.reply.Reply.TheVariants as reply
 use Rattle.exec_journal.specs.declared.reply.StrayWhy.{StrayWhy}
-use Rattle.exec_journal.specs.declared.reply.StrayWhy.TheVariants as stray
 use Rattle.exec_journal.specs.declared.reply.Why.{Why}
-use Rattle.exec_journal.specs.declared.reply.Why.TheVariants as why
 use Rattle.exec_journal.specs.Entries.{attempt_of, same_attempt}
-
-abbrev pub same_flag : Bool → Bool → Bool
-same_flag x y = if x then y else not y
-
-abbrev pub same_why : Why → Why → Bool
-same_why why.Ended why.Ended = true
-same_why why.Breach why.Breach = true
-same_why why.Feed why.Feed = true
-same_why why.Unwanted why.Unwanted = true
-same_why why.Quit why.Quit = true
-same_why why.Evicted why.Evicted = true
-same_why _ _ = false
-
-abbrev pub same_stray : StrayWhy → StrayWhy → Bool
-same_stray stray.Never stray.Never = true
-same_stray stray.Closed stray.Closed = true
-same_stray _ _ = false
-
-abbrev pub same_breach : BreachWhy → BreachWhy → Bool
-same_breach breach.Broken breach.Broken = true
-same_breach breach.WrongNumber breach.WrongNumber = true
-same_breach breach.Unasked breach.Unasked = true
-same_breach breach.NotCancelled breach.NotCancelled = true
-same_breach _ _ = false
+use Rattle.exec_journal.specs.Same.{same_flag, same_why, same_stray, same_breach}
 
 abbrev pub is_launch : ℕ → Attempt → Reply → Bool
 is_launch l s (reply.Launch m a b t) = (m == l) && (same_attempt (attempt_of a b t) s)

@@ -1,9 +1,9 @@
 // Compares a recorded reply with the one that the core gave.
 ghost use Rattle.std.specs.Prelude.{◌≡◌};
-ghost use Rattle.exec_journal.specs.Entries.{attempt_of};
-ghost use Rattle.journal_replay.specs.Same.{is_breach, is_cancel, is_gather, is_kill, is_late, is_launch, is_line, is_matched, is_send, is_stray, is_told, same_breach, same_stray, same_why};
+ghost use Rattle.journal_replay.specs.Same.{is_breach, is_cancel, is_gather, is_kill, is_late, is_launch, is_line, is_matched, is_send, is_stray, is_told};
+ghost use Rattle.exec_journal.specs.Same.{same_breach, same_stray, same_why};
 
-use exec_journal::{Attempt, Branch, BreachWhy, Reply, StrayWhy, Why};
+use exec_journal::{Attempt, BreachWhy, Reply, StrayWhy, Why};
 
 /// Returns true if it is this reply, and it is recorded.
 pub(crate) fn is_told(reply: &Reply, told: &Reply) -> bool
@@ -15,14 +15,14 @@ pub(crate) fn is_told(reply: &Reply, told: &Reply) -> bool
             action,
             branch,
             attempt,
-        } => is_launch(*line, attempt_of(*action, *branch, *attempt), told),
+        } => is_launch(*line, Attempt::of(*action, *branch, *attempt), told),
         Reply::Send {
             line,
             number,
             action,
             branch,
             attempt,
-        } => is_send(*line, *number, attempt_of(*action, *branch, *attempt), told),
+        } => is_send(*line, *number, Attempt::of(*action, *branch, *attempt), told),
         Reply::Cancel { line, number } => is_cancel(*line, *number, told),
         Reply::Gather {
             line,
@@ -35,7 +35,7 @@ pub(crate) fn is_told(reply: &Reply, told: &Reply) -> bool
         } => is_gather(
             *line,
             *number,
-            attempt_of(*action, *branch, *attempt),
+            Attempt::of(*action, *branch, *attempt),
             *exit,
             *refused,
             told,
@@ -46,12 +46,12 @@ pub(crate) fn is_told(reply: &Reply, told: &Reply) -> bool
             action,
             branch,
             attempt,
-        } => is_matched(attempt_of(*action, *branch, *attempt), told),
+        } => is_matched(Attempt::of(*action, *branch, *attempt), told),
         Reply::Late {
             action,
             branch,
             attempt,
-        } => is_late(attempt_of(*action, *branch, *attempt), told),
+        } => is_late(Attempt::of(*action, *branch, *attempt), told),
         Reply::Stray(why) => is_stray(*why, told),
         Reply::Breach(why) => is_breach(*why, told),
         Reply::Stop => matches!(told, Reply::Stop),
@@ -62,16 +62,6 @@ pub(crate) fn is_told(reply: &Reply, told: &Reply) -> bool
         Reply::AgainLater => matches!(told, Reply::AgainLater),
         Reply::Greeted => matches!(told, Reply::Greeted),
         Reply::Idle | Reply::File(_) | Reply::NoFile | Reply::NoMemory | Reply::Astray => false,
-    }
-}
-
-fn attempt_of(action: u32, branch: Branch, number: u32) -> Attempt
-    ensures { result ≡ attempt_of action branch number }
-{
-    Attempt {
-        action,
-        branch,
-        number,
     }
 }
 

@@ -1,14 +1,13 @@
 // Replies, written as JSON values.
 ghost use Rattle.std.specs.Prelude.{◌≡◌, IfOk, OnOk};
 ghost use Rattle.exec_journal.specs.declared.reply.Reply.TheVariants as reply;
-ghost use Rattle.exec_journal.specs.Entries.{attempt_of};
 ghost use Rattle.serde_json.specs.View.{view};
 ghost use Rattle.journal_text.specs.Fits.{IsCount, ReplyFits};
 ghost use Rattle.journal_text.specs.Writing.{reply_data};
 
 use crate::row::{Row, word_value};
 use crate::words::{branch_value, breach_value, stray_value, why_value};
-use exec_journal::{Attempt, Branch, BreachWhy, Reply, StrayWhy, Why};
+use exec_journal::{Attempt, BreachWhy, Reply, StrayWhy, Why};
 use plain_values::{Blob, NoMemory};
 use serde_json::Value;
 use std::alloc::Global;
@@ -23,7 +22,7 @@ pub(crate) fn reply_value(alloc: Global, reply: &Reply) -> Result<Value, NoMemor
             action,
             branch,
             attempt,
-        } => launch_value(alloc, *line, attempt_of(*action, *branch, *attempt)),
+        } => launch_value(alloc, *line, Attempt::of(*action, *branch, *attempt)),
         Reply::Send {
             line,
             number,
@@ -34,7 +33,7 @@ pub(crate) fn reply_value(alloc: Global, reply: &Reply) -> Result<Value, NoMemor
             alloc,
             *line,
             *number,
-            attempt_of(*action, *branch, *attempt),
+            Attempt::of(*action, *branch, *attempt),
         ),
         Reply::Cancel { line, number } => cancel_value(alloc, *line, *number),
         Reply::Gather {
@@ -46,7 +45,7 @@ pub(crate) fn reply_value(alloc: Global, reply: &Reply) -> Result<Value, NoMemor
             exit,
             refused,
         } => {
-            let of = attempt_of(*action, *branch, *attempt);
+            let of = Attempt::of(*action, *branch, *attempt);
             gather_value(alloc, *line, *number, of, *exit, *refused)
         },
         Reply::Kill { line, why } => kill_value(alloc, *line, *why),
@@ -56,12 +55,12 @@ pub(crate) fn reply_value(alloc: Global, reply: &Reply) -> Result<Value, NoMemor
             action,
             branch,
             attempt,
-        } => matched_value(alloc, attempt_of(*action, *branch, *attempt)),
+        } => matched_value(alloc, Attempt::of(*action, *branch, *attempt)),
         Reply::Late {
             action,
             branch,
             attempt,
-        } => late_value(alloc, attempt_of(*action, *branch, *attempt)),
+        } => late_value(alloc, Attempt::of(*action, *branch, *attempt)),
         Reply::Stray(why) => stray_reply(alloc, *why),
         Reply::Breach(why) => breach_reply(alloc, *why),
         Reply::Stop => word_value(alloc, "Stop"),
@@ -75,16 +74,6 @@ pub(crate) fn reply_value(alloc: Global, reply: &Reply) -> Result<Value, NoMemor
         Reply::Greeted => word_value(alloc, "Greeted"),
         Reply::Astray => word_value(alloc, "Astray"),
         Reply::NoMemory => word_value(alloc, "NoMemory"),
-    }
-}
-
-fn attempt_of(action: u32, branch: Branch, number: u32) -> Attempt
-    ensures { result ≡ attempt_of action branch number }
-{
-    Attempt {
-        action,
-        branch,
-        number,
     }
 }
 

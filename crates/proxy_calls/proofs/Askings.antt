@@ -20,7 +20,8 @@ use Rattle.core_bench.specs.declared.shelf.Good.TheVariants as good
 use Rattle.core_bench.proofs.Own.{child_is_own}
 use Rattle.core_bench.specs.Bench.{IsChild, Comes, ComesOut}
 use Rattle.proxy_calls.specs.Goods.{IsChildThere, child_good}
-use Rattle.proxy_calls.specs.Orders.{is_idle, GivesChild, lines_with}
+use Rattle.exec_journal.specs.Idle.{is_idle}
+use Rattle.proxy_calls.specs.Orders.{GivesChild, lines_with}
 use Rattle.proxy_calls.proofs.Replies.{order_is_kept}
 use Rattle.proxy_calls.proofs.Entries.{Called, made, saw_made, grew, move_is, halved}
 

@@ -4,7 +4,7 @@ use Rattle.exec_journal.specs.declared.reply.Reply.{Reply}
 use Rattle.exec_journal.specs.declared.reply.Reply.TheVariants as reply
 use Rattle.exec_journal.specs.Entries.{is_kept}
 use Rattle.core_contract.specs.Laws.{says_file, fits_ask, fits_noted, fits_look, fits_claim}
-use Rattle.proxy_calls.specs.Orders.{is_idle}
+use Rattle.exec_journal.specs.Idle.{is_idle}
 
 -- no two replies are one of which a fact says true and the other false
 clash : {b : Bool} → b ≡ true → b ≡ false → ⊥

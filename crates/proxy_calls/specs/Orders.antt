@@ -1,8 +1,7 @@
 -- What an Ask is answered, and what it leaves.
-use Rattle.std.proofs.Common.{refl}
 use Rattle.std.specs.Prelude.{length}
 use Rattle.run_plan.specs.Groups.{is_remote}
-use Rattle.std.specs.Prelude.{◌≡◌, ◌≤◌, ℕ, ◌+◌, Bool, true, false, is_some, if◌then◌else◌, Option, Some, None}
+use Rattle.std.specs.Prelude.{◌≡◌, ◌≤◌, ℕ, ◌+◌, is_some, if◌then◌else◌, Option, Some, None}
 use Rattle.seat_desk.specs.declared.machine.Machine.{Ghosts}
 use Rattle.seat_desk.specs.declared.desk.Pass.{Pass}
 use Rattle.seat_desk.specs.Passes.{mine, basis, seen}
@@ -11,7 +10,7 @@ use Rattle.exec_journal.specs.declared.call.Call.TheVariants as call
 use Rattle.exec_journal.specs.declared.reply.Reply.{Reply}
 use Rattle.exec_journal.specs.declared.reply.Reply.TheVariants as reply
 use Rattle.exec_journal.specs.declared.reply.Why.{Why}
-use Rattle.exec_journal.specs.Entries.{is_kept, launch_in}
+use Rattle.exec_journal.specs.Entries.{launch_in}
 use Rattle.outside.specs.Launches.{IsNewChild}
 use Rattle.outside.specs.Told.{ChildTold}
 use Rattle.core_contract.specs.Discipline.{Discipline}
@@ -22,35 +21,6 @@ use Rattle.proxy_calls.specs.declared.asking.Order.{Order}
 use Rattle.proxy_calls.specs.declared.asking.Order.TheVariants as order
 use Rattle.proxy_calls.specs.Calls.{MakesOne}
 use Rattle.proxy_calls.specs.Goods.{IsChildThere, child_good}
-
-abbrev pub is_idle : Reply → Bool
-is_idle reply.Idle = true
-is_idle _ = false
-
--- such a reply is not kept
-pub idle_not_kept : (r : Reply) → is_idle r ≡ true → is_kept r ≡ false
-idle_not_kept (reply.Launch l a b t) e = absurd (cc)
-idle_not_kept (reply.Send l n a b t) e = absurd (cc)
-idle_not_kept (reply.Cancel l n) e = absurd (cc)
-idle_not_kept (reply.Gather l n a b t x y) e = absurd (cc)
-idle_not_kept (reply.Kill l y) e = absurd (cc)
-idle_not_kept reply.Stop e = absurd (cc)
-idle_not_kept reply.Idle e = refl
-idle_not_kept reply.Noted e = absurd (cc)
-idle_not_kept (reply.File f) e = absurd (cc)
-idle_not_kept reply.NoFile e = absurd (cc)
-idle_not_kept reply.Granted e = absurd (cc)
-idle_not_kept reply.Lost e = absurd (cc)
-idle_not_kept reply.Dropped e = absurd (cc)
-idle_not_kept reply.AgainLater e = absurd (cc)
-idle_not_kept (reply.Line l) e = absurd (cc)
-idle_not_kept (reply.Matched a b t) e = absurd (cc)
-idle_not_kept (reply.Late a b t) e = absurd (cc)
-idle_not_kept reply.Greeted e = absurd (cc)
-idle_not_kept (reply.Stray y) e = absurd (cc)
-idle_not_kept (reply.Breach y) e = absurd (cc)
-idle_not_kept reply.Astray e = absurd (cc)
-idle_not_kept reply.NoMemory e = absurd (cc)
 
 module _ {K : Type 0} (told : K → ChildTold) where
   -- with a Kill the line's child comes out

@@ -6,7 +6,8 @@ ghost use Rattle.proxy_deeds.specs.declared.halt.ProxyHalt.TheVariants as cause;
 ghost use Rattle.core_contract.specs.Laws.{fits_ask};
 ghost use Rattle.core_contract.specs.Duties.{Asks, duty_of};
 ghost use Rattle.proxy_calls.specs.Calls.{IsProxyOf, MakesNone};
-ghost use Rattle.proxy_calls.specs.Orders.{is_idle, idle_not_kept, GivesChild, IsOrdered, HasAsked};
+ghost use Rattle.exec_journal.specs.Idle.{is_idle, idle_not_kept};
+ghost use Rattle.proxy_calls.specs.Orders.{GivesChild, IsOrdered, HasAsked};
 
 use crate::goods::child_in;
 use core_bench::{Bench, Good};

@@ -5,7 +5,7 @@ use Rattle.exec_journal.specs.declared.call.Call.TheVariants as call
 use Rattle.exec_journal.specs.declared.reply.Reply.{Reply}
 use Rattle.exec_journal.specs.declared.reply.Reply.TheVariants as reply
 use Rattle.exec_journal.specs.Entries.{is_kept, takes}
-use Rattle.tap_lane.specs.Taking.{is_idle}
+use Rattle.exec_journal.specs.Idle.{is_idle}
 use Rattle.core_contract.specs.Laws.{says_file, fits_answer, fits_take, fits_noted, Hears, hearing_from}
 
 -- an answer's reply is kept, is no file, leads on to the same line, and gives none

@@ -7,7 +7,8 @@ ghost use Rattle.core_contract.specs.Moves.{Past};
 ghost use Rattle.core_contract.specs.Laws.{hearing_of, Free, Hears, Over};
 ghost use Rattle.core_bench.specs.Bench.{IsTapOf};
 ghost use Rattle.tap_lane.specs.Heard.{IsAnswer};
-ghost use Rattle.tap_lane.specs.Taking.{HasTaken, tap_good, is_idle, idle_not_kept};
+ghost use Rattle.exec_journal.specs.Idle.{is_idle, idle_not_kept};
+ghost use Rattle.tap_lane.specs.Taking.{HasTaken, tap_good};
 ghost use Rattle.tap_lane.specs.Working.{IsOfBerth, IsAt, IsSameLane, own, number};
 
 use crate::lane::TapLane;

@@ -3,7 +3,7 @@ use Rattle.std.proofs.Common.{◌≡◌, Bool, true, false, refl, sym, ◌∙◌
 use Rattle.exec_journal.specs.declared.reply.Reply.{Reply}
 use Rattle.exec_journal.specs.declared.reply.Reply.TheVariants as reply
 use Rattle.core_contract.specs.Laws.{says_file, fits_tick}
-use Rattle.proxy_calls.specs.Orders.{is_idle}
+use Rattle.exec_journal.specs.Idle.{is_idle}
 
 clash : {b : Bool} → b ≡ true → b ≡ false → ⊥
 clash e f = absurd (let x : true ≡ false = sym e ∙ f in cc)

@@ -4,7 +4,7 @@ ghost use Rattle.seat_desk.specs.Passes.{IsSamePass, mine};
 ghost use Rattle.exec_journal.specs.declared.call.Call.TheVariants as call;
 ghost use Rattle.core_contract.specs.Duties.{Asks, duty_of};
 ghost use Rattle.proxy_calls.specs.Calls.{MakesNone, MakesOne};
-ghost use Rattle.proxy_calls.specs.Orders.{is_idle, idle_not_kept};
+ghost use Rattle.exec_journal.specs.Idle.{is_idle, idle_not_kept};
 ghost use Rattle.tick_lane.specs.Ticks.{IsTicker, reply_of};
 
 use core_bench::Bench;

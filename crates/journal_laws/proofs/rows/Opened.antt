@@ -13,7 +13,8 @@ use Rattle.exec_journal.specs.Outcomes as o
 use Rattle.exec_journal.specs.Race.{has_grant_of, committed}
 use Rattle.exec_journal.specs.Accounted.{is_followed}
 use Rattle.exec_journal.proofs.Parts as part
-use Rattle.journal_laws.specs.IsLegal.{is_legal, same_reply}
+use Rattle.exec_journal.specs.Same.{same_reply}
+use Rattle.journal_laws.specs.IsLegal.{is_legal}
 use Rattle.journal_laws.specs.Paid.{lane_owes, lanes_owe}
 
 unfoldable pub words : Unit {0}
