@@ -1,4 +1,3 @@
 -- What the laws cite.
 pub mod Owed
 pub mod OwnOrders
-pub mod Runnable

@@ -28,7 +28,7 @@ use Rattle.tap_lane.specs.declared.ends.TapHalt.{TapHalt}
 use Rattle.tap_lane.specs.declared.ends.TapHalt.TheVariants as want
 use Rattle.tap_lane.specs.Heard.{AreAnswers}
 use Rattle.tap_lane.specs.Lane.{Whole, Runs, CutShort, RunsUntil, LaneEnds}
-use Rattle.proxy_deeds.specs.Settings.{Means}
+use Rattle.run_values.specs.Settings.{Means}
 use Rattle.proxy_deeds.specs.declared.halt.ProxyHalt.{ProxyHalt}
 use Rattle.proxy_deeds.specs.declared.halt.ProxyHalt.TheVariants as cause
 use Rattle.proxy_deeds.specs.Deeds.{Deed, DeedOf, Acts}

@@ -7,7 +7,7 @@ use Rattle.lane_crew.specs.declared.pair.Either.{Either}
 use Rattle.lane_crew.specs.declared.pair.Either.TheVariants.{First, Second}
 use Rattle.remote_messages.specs.declared.work.WorkAction.{WorkAction}
 use Rattle.run_plan.specs.declared.plan.Speech.{Speech}
-use Rattle.proxy_deeds.specs.declared.settings.Settings.{Settings}
+use Rattle.run_values.specs.declared.settings.Settings.{Settings}
 use Rattle.lane_runs.specs.declared.proxies.ProxySeat.{ProxySeat}
 use Rattle.tap_lane.specs.declared.seat.TapSeat.{TapSeat}
 use Rattle.lane_runs.specs.Seats.{AreSeats}

@@ -16,7 +16,7 @@ use Rattle.core_contract.specs.Laws.{tap_lane}
 use Rattle.core_contract.specs.Shelf.{tap_at}
 use Rattle.core_bench.specs.Bench.{IsOf, IsTapOf}
 use Rattle.run_plan.specs.declared.plan.Speech.{Speech}
-use Rattle.proxy_deeds.specs.declared.settings.Settings.{Settings}
+use Rattle.run_values.specs.declared.settings.Settings.{Settings}
 use Rattle.proxy_deeds.specs.declared.halt.ProxyHalt.{ProxyHalt}
 use Rattle.proxy_deeds.specs.Lines.{lines_of, listed}
 use Rattle.proxy_steps.specs.declared.hands.EndedFeed.{EndedFeed}

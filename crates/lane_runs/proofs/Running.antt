@@ -24,12 +24,13 @@ use Rattle.core_contract.specs.Moves.{History}
 use Rattle.core_contract.specs.Duties.{proxy_lane}
 use Rattle.core_contract.specs.Laws.{tap_lane}
 use Rattle.proxy_calls.specs.Calls.{IsProxyOf}
-use Rattle.proxy_deeds.specs.declared.settings.Settings.{Settings}
-use Rattle.proxy_deeds.specs.Settings.{AreOfPlan, FitsSettings, Means, speaks_remote}
+use Rattle.run_values.specs.declared.settings.Settings.{Settings}
+use Rattle.proxy_deeds.specs.Settings.{FitsSettings}
+use Rattle.run_values.specs.Settings.{AreOfPlan, Means, speaks_remote}
 use Rattle.proxy_deeds.proofs.Growing.{all_told_later}
 use Rattle.proxy_steps.specs.Lanes.{back_of}
 use Rattle.proxy_steps.specs.Steps.{Ended, IsServedBy}
-use Rattle.proxy_steps.specs.Work.{IsWorkOf}
+use Rattle.run_values.specs.Work.{IsWorkOf}
 use Rattle.tap_lane.specs.Heard.{back_by}
 use Rattle.tap_lane.specs.Lane as tap
 use Rattle.lane_runs.specs.declared.proxies.ProxySeat.{ProxySeat}

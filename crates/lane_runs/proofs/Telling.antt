@@ -27,7 +27,7 @@ use Rattle.tap_lane.specs.declared.ends.EndedTap.{EndedTap}
 use Rattle.tap_lane.specs.declared.ends.TapHalt.{TapHalt}
 use Rattle.tap_lane.specs.Heard.{back_by, SaysTo, EndedBy}
 use Rattle.tap_lane.specs.Lane.{LaneEnds}
-use Rattle.proxy_deeds.specs.declared.settings.Settings.{Settings}
+use Rattle.run_values.specs.declared.settings.Settings.{Settings}
 use Rattle.proxy_deeds.specs.declared.halt.ProxyHalt.{ProxyHalt}
 use Rattle.proxy_deeds.specs.Deeds.{Deed}
 use Rattle.proxy_deeds.specs.Ends.{Ends}

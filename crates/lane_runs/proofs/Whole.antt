@@ -24,7 +24,7 @@ use Rattle.core_contract.specs.Duties.{proxy_lane}
 use Rattle.core_contract.specs.Laws.{tap_lane, lines_in}
 use Rattle.core_bench.specs.Bench.{IsOf, IsTapOf, IsInSpot, IsPlaceOf, TapsLie, PlacesLie}
 use Rattle.core_bench.specs.Objects.{AreFresh, IsPlaceAt}
-use Rattle.proxy_deeds.specs.declared.settings.Settings.{Settings}
+use Rattle.run_values.specs.declared.settings.Settings.{Settings}
 use Rattle.proxy_steps.specs.declared.hands.EndedFeed.{EndedFeed}
 use Rattle.proxy_steps.specs.Lanes.{back_of}
 use Rattle.proxy_lane.specs.declared.lane.ProxyLeft.{ProxyLeft}

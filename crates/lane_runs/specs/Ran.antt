@@ -11,7 +11,7 @@ use Rattle.core_contract.specs.Moves.{History}
 use Rattle.core_contract.specs.Duties.{proxy_lane}
 use Rattle.core_contract.specs.Laws.{tap_lane}
 use Rattle.run_plan.specs.declared.plan.Speech.{Speech}
-use Rattle.proxy_deeds.specs.declared.settings.Settings.{Settings}
+use Rattle.run_values.specs.declared.settings.Settings.{Settings}
 use Rattle.proxy_steps.specs.Lanes.{back_of}
 use Rattle.proxy_steps.specs.Steps.{Ended}
 use Rattle.tap_lane.specs.Heard.{back_by}

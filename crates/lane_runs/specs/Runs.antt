@@ -20,7 +20,7 @@ use Rattle.core_bench.specs.Objects.{IsPlaceAt}
 use Rattle.lane_laws.specs.Numbers.{In}
 use Rattle.lane_laws.specs.Pipes.{PipeOf}
 use Rattle.run_plan.specs.declared.plan.Speech.{Speech}
-use Rattle.proxy_deeds.specs.declared.settings.Settings.{Settings}
+use Rattle.run_values.specs.declared.settings.Settings.{Settings}
 use Rattle.proxy_deeds.specs.declared.halt.ProxyHalt.{ProxyHalt}
 use Rattle.proxy_deeds.specs.Lines.{Returned, started_in}
 use Rattle.proxy_steps.specs.Lanes.{back_of}

@@ -5,8 +5,8 @@ use Rattle.lane_crew.specs.declared.pair.Either.TheVariants.{First, Second}
 use Rattle.run_plan.specs.declared.plan.Speech.{Speech}
 use Rattle.run_plan.specs.Groups.{is_remote}
 use Rattle.core_contract.specs.Discipline.{Discipline}
-use Rattle.proxy_deeds.specs.declared.settings.Settings.{Settings}
-use Rattle.proxy_deeds.specs.Settings.{Means, speaks_remote}
+use Rattle.run_values.specs.declared.settings.Settings.{Settings}
+use Rattle.run_values.specs.Settings.{Means, speaks_remote}
 use Rattle.remote_messages.specs.declared.work.WorkAction.{WorkAction}
 use Rattle.lane_runs.specs.declared.proxies.ProxySeat.{ProxySeat}
 use Rattle.tap_lane.specs.declared.seat.TapSeat.{TapSeat}

@@ -1,5 +1,5 @@
 //! The resources of a run's lanes.
-use proxy_deeds::Settings;
+use run_values::Settings;
 use remote_messages::WorkAction;
 use run_plan::Speech;
 

@@ -8,14 +8,14 @@ ghost use Rattle.proxy_deeds.specs.Settings.{FitsSettings};
 ghost use Rattle.lane_runs.specs.Seats.{means_of};
 ghost use Rattle.proxy_steps.specs.Lanes.{back_of};
 ghost use Rattle.proxy_steps.specs.Steps.{IsServedBy};
-ghost use Rattle.proxy_steps.specs.Work.{IsWorkOf};
+ghost use Rattle.run_values.specs.Work.{IsWorkOf};
 
 use core_bench::Bench;
 use core_contract::Rules;
 use lane_bells::Bells;
 use lane_crew::Lane;
 use outside::{Berth, Place};
-use proxy_deeds::Settings;
+use run_values::Settings;
 use proxy_lane::{ProxyLeft, Site};
 use remote_messages::WorkAction;
 use run_plan::Speech;

@@ -2,8 +2,8 @@
 ghost use Rattle.std.specs.Prelude.{◌≡◌, ◌≤◌, [], length, map, IfOk, IfErr};
 ghost use Rattle.core_bench.specs.Objects.{AreFresh};
 ghost use Rattle.lane_runs.specs.Seats.{SpeechesFit, berths_in};
-ghost use Rattle.proxy_deeds.specs.Settings.{AreOfPlan};
-ghost use Rattle.proxy_steps.specs.Work.{IsWorkOf};
+ghost use Rattle.run_values.specs.Settings.{AreOfPlan};
+ghost use Rattle.run_values.specs.Work.{IsWorkOf};
 ghost use Rattle.lane_crew.specs.Beside.{count_of};
 ghost use Rattle.core_contract.specs.Duties.{proxy_lane};
 ghost use Rattle.lane_runs.specs.Blanks.{HasRoom};

@@ -40,7 +40,7 @@ use Rattle.delay_rules.proofs.Lawful as dl
 use Rattle.progress_laws.specs.Awaits.{Awaits, AwaitsEnd}
 use Rattle.progress_laws.specs.Quiet.{AllQuiet}
 use Rattle.progress_laws.specs.Rests.{AllLeft, AllRest}
-use Rattle.history_laws.specs.Runnable.{EachHasBerth}
+use Rattle.run_values.specs.Runnable.{EachHasBerth}
 use Rattle.progress_laws.proofs.Idles.{IsIdle, idle_asks, idle_on, leave_never, take_on}
 use Rattle.progress_laws.proofs.Options.{none_some, some_left, some_right}
 use Rattle.progress_laws.proofs.OwnBerths as ob

@@ -31,7 +31,7 @@ use Rattle.progress_laws.proofs.Leaving.{EndsOrWaits, OverRests, lanes_leave, no
 use Rattle.progress_laws.proofs.Unwanted.{idle_asked}
 use Rattle.progress_laws.specs.Awaits.{Awaits, AwaitsEnd}
 use Rattle.progress_laws.specs.Rests.{AllLeft, AllRest}
-use Rattle.history_laws.specs.Runnable.{EachHasBerth}
+use Rattle.run_values.specs.Runnable.{EachHasBerth}
 use Rattle.progress_laws.proofs.Idles.{IsIdle, idle_asks, idle_on, take_on}
 use Rattle.progress_laws.proofs.Options.{none_some, some_left, some_right}
 use Rattle.progress_laws.proofs.OwnBerths.{BerthsIdle, all_quiet, launches_never, next_none}

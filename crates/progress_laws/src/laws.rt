@@ -28,7 +28,7 @@ ghost use Rattle.progress_laws.specs.Few.{AllWithin, CallsAreFew, CallsAreFewBut
 ghost use Rattle.progress_laws.specs.Moments.{NeverStuck};
 ghost use Rattle.progress_laws.specs.Quiet.{AllQuiet, IsFree, NoneOwes};
 ghost use Rattle.progress_laws.specs.Rests.{AllLeft, AllRest};
-ghost use Rattle.history_laws.specs.Runnable.{EachHasBerth};
+ghost use Rattle.run_values.specs.Runnable.{EachHasBerth};
 ghost use Rattle.shared_rules.specs.Runnable.{EachHasPool};
 ghost use Rattle.progress_laws.specs.Unwanted.{UnwantedAreAsked};
 

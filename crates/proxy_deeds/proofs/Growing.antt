@@ -11,7 +11,7 @@ use Rattle.exec_journal.specs.declared.call.Call.{Call}
 use Rattle.exec_journal.specs.declared.reply.Reply.{Reply}
 use Rattle.core_contract.specs.Moves.{Past, History}
 use Rattle.core_contract.specs.Duties.{Duty, duty_then}
-use Rattle.proxy_deeds.specs.Settings.{Means}
+use Rattle.run_values.specs.Settings.{Means}
 use Rattle.proxy_deeds.specs.Deeds.{Looked, Deed, DeedOf, Acts, calls_of, given_by, given_to, with_end, with_ends}
 use Rattle.proxy_deeds.specs.Told.{IsTold, AreTold, AllTold}
 use Rattle.proxy_deeds.specs.Lines.{started_by, started_in, room_fault, room_faults, feed_fault, feed_faults, RoseBy, Returned, EndsLine, IsFed, IsBack, IsServed}

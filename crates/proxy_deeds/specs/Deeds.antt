@@ -32,7 +32,7 @@ use Rattle.due_frames.specs.Frames.{send_due, cancel_due}
 use Rattle.order_acts.specs.Acts.{GivenBy, LaunchedBy, SentBy, found_as}
 use Rattle.core_contract.specs.Moves.{History}
 use Rattle.core_contract.specs.Duties.{Duty, Asks, Launches, Sends, Cancels, Gathers, Commits, Kills, Left, duty_then}
-use Rattle.proxy_deeds.specs.Settings.{Means, command_for, speaks_remote}
+use Rattle.run_values.specs.Settings.{Means, command_for, speaks_remote}
 
 -- a Look with what it was answered: the bytes of a file, or that there is none
 pub record Looked : Type 0 where

@@ -2,7 +2,5 @@
 #![tactic(auto)]
 
 mod halt;
-mod settings;
 
 pub use halt::ProxyHalt;
-pub use settings::Settings;

@@ -1,5 +1,6 @@
 -- The site and what is asked there after a call, and what an order leaves by how it was reported.
-use Rattle.std.proofs.Common.{◌≡◌, ℕ, ℤ, [], Option, Result, Ok, Err, refl, ap, sym, subst, ◌∙◌, append-nil}
+use Rattle.std.proofs.Common.{◌≡◌, ◌⊎◌, inl, inr, ℕ, ℤ, ◌<◌, ◌≤◌, List, [], length, get_or, slice_get, Option, Some, None, unwrap_or, option_map, Result, Ok, Err, refl, ap, sym, subst, ◌∙◌, append-nil, arith}
+use Rattle.std.proofs.lemmas.Option.{slice_get_cases, slice_get_within}
 use Rattle.std.specs.Prelude.{OnOk, IfErr}
 use Rattle.plain_values.specs.declared.no_memory.NoMemory.{NoMemory}
 use Rattle.seat_desk.specs.declared.machine.Machine.{Ghosts}
@@ -10,18 +11,21 @@ use Rattle.exec_journal.specs.declared.call.Call.TheVariants as call
 use Rattle.exec_journal.specs.declared.call.Written.{Written}
 use Rattle.exec_journal.specs.declared.reply.Reply.{Reply}
 use Rattle.exec_journal.specs.declared.reply.Reply.TheVariants as reply
+use Rattle.run_plan.specs.declared.plan.Plan.{Plan}
+use Rattle.run_plan.specs.declared.plan.PlanAction.{PlanAction}
 use Rattle.remote_messages.specs.declared.work.WorkAction.{WorkAction}
 use Rattle.core_contract.specs.Discipline.{Discipline, makers_in, outputs_in}
 use Rattle.core_contract.specs.Shelf.{child_at}
 use Rattle.core_contract.specs.Duties.{Asks, duty_of}
 use Rattle.proxy_deeds.specs.declared.halt.ProxyHalt.{ProxyHalt}
 use Rattle.proxy_deeds.specs.declared.halt.ProxyHalt.TheVariants as cause
-use Rattle.proxy_deeds.specs.Settings.{FitsSettings, Means}
+use Rattle.proxy_deeds.specs.Settings.{FitsSettings}
+use Rattle.run_values.specs.Settings.{Means}
 use Rattle.proxy_calls.specs.Calls.{MakesNone, MakesOne, Stays}
 use Rattle.proxy_calls.specs.Reports.{Told}
 use Rattle.proxy_calls.specs.declared.asking.Order.{Order}
 use Rattle.outside.specs.Told.{ChildTold}
-use Rattle.proxy_steps.specs.Work.{IsWork, IsWorkOf}
+use Rattle.run_values.specs.Work.{IsWork, IsWorkOf}
 use Rattle.proxy_steps.specs.Lanes.{LaneObjects}
 use Rattle.proxy_steps.specs.Steps.{IsShelved, IsLaidBy, Goes, Halts, TellsWrote, IsCauseOf}
 use Rattle.proxy_steps.proofs.Sends.{starts_later}
@@ -79,6 +83,23 @@ module _ {M G Q R : Type 0} {g : Ghosts M Call Reply G Q} (rules : Q → Discipl
     group = x.group;
     of_action = work_on request.attempt.action request.work.now stays.same x.of_action;
   }
+
+-- the work of an action is asked by what the plan says of the action
+pub work_at : (p : Plan) (works : List WorkAction) (a : ℕ) (work : WorkAction) → IsWorkOf p works
+    → slice_get works a ≡ Some work → IsWork (outputs_in p a) (makers_in p a) work
+work_at p works a work of at = by (slice_get_cases p.actions a).1
+  where
+    by : ((x : PlanAction) × (a < length p.actions) × (slice_get p.actions a ≡ Some x)
+        × (get_or p.actions a x ≡ x)) ⊎ ((length p.actions ≤ a) × (slice_get p.actions a ≡ None))
+        → IsWork (outputs_in p a) (makers_in p a) work
+    by (inl x) = subst (λ (o : Option PlanAction). IsWork
+        (unwrap_or (option_map (λ y. y.outputs) o) []) (unwrap_or (option_map (λ y. y.makers) o) []) work)
+        (sym x.2) (of.each a x.0 work x.2 at)
+    by (inr x) = absurd (
+        let past = x.0 in
+        let many = of.as_many in
+        let within = slice_get_within works a work at in
+        omega (arith, past, many, within))
 
 -- where the child on the shelf and the open line are as they were
 pub still_tidy : {M G Q : Type 0} {g : Ghosts M Call Reply G Q} (w : ℕ)

@@ -7,7 +7,7 @@ use Rattle.sandbox_rooms.specs.Calls.{Asked}
 use Rattle.sandbox_rooms.specs.Rooms.{prepare_asks}
 use Rattle.due_frames.specs.declared.frames.Due.{Due}
 use Rattle.due_frames.specs.declared.requests.DueWork.{DueWork}
-use Rattle.proxy_deeds.specs.Settings.{speaks_remote}
+use Rattle.run_values.specs.Settings.{speaks_remote}
 use Rattle.proxy_deeds.specs.Deeds.{send_asks, due_for}
 use Rattle.proxy_lane.specs.declared.site.Site.{Site}
 use Rattle.proxy_lane.specs.Sites.{means_at}

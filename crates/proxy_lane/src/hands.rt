@@ -1,7 +1,7 @@
 //! The lane's hands: the berth with the feeds of its lines. And the work of an action.
 ghost use Rattle.std.specs.Prelude.{◌≡◌, ◌<◌, length, slice_get, Some};
 ghost use Rattle.outside.specs.Launches.{IsNewChild};
-ghost use Rattle.proxy_deeds.specs.Settings.{speaks_remote};
+ghost use Rattle.run_values.specs.Settings.{speaks_remote};
 ghost use Rattle.proxy_steps.specs.Steps.{open_in, IsLaidBy};
 ghost use Rattle.proxy_lane.specs.Held.{first_held};
 

@@ -5,7 +5,7 @@ ghost use Rattle.seat_desk.specs.Passes.{basis};
 ghost use Rattle.due_frames.specs.Requests.{IsFrom};
 ghost use Rattle.proxy_deeds.specs.Deeds.{AreInputs, look_at, looks_of};
 ghost use Rattle.proxy_calls.specs.Calls.{Stays};
-ghost use Rattle.proxy_steps.specs.Work.{IsMadeBy};
+ghost use Rattle.run_values.specs.Work.{IsMadeBy};
 ghost use Rattle.proxy_lane.specs.Sites.{IsDue, WereTold};
 
 use crate::hands::is_executor;

@@ -6,7 +6,7 @@ ghost use Rattle.proxy_steps.specs.Acts.{Writes, CancelActs};
 ghost use Rattle.proxy_steps.specs.Steps.{OwesWrote};
 ghost use Rattle.due_frames.specs.declared.frames.Due.TheVariants.{Frame};
 ghost use Rattle.due_frames.specs.Due.{HasSources};
-ghost use Rattle.proxy_deeds.specs.Settings.{HasGroup};
+ghost use Rattle.run_values.specs.Settings.{HasGroup};
 ghost use Rattle.proxy_lane.specs.Sites.{IsSite, IsDue, IsOrdered, SendsAt, ReportsWrote, Obeys};
 ghost use Rattle.proxy_lane.specs.Writing.{asks_in, asks_of, due_of};
 

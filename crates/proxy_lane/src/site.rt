@@ -1,7 +1,7 @@
 //! The context of a proxy lane, and a request for a line.
 
 use exec_journal::Attempt;
-use proxy_deeds::Settings;
+use run_values::Settings;
 use remote_messages::WorkAction;
 use run_plan::Speech;
 use std::alloc::Global;

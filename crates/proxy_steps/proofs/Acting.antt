@@ -47,7 +47,7 @@ use Rattle.proxy_steps.specs.declared.hands.OpenFeed.{OpenFeed}
 use Rattle.proxy_steps.specs.Lanes.{Open, open_of, open_line}
 use Rattle.order_acts.specs.Acts.{GivenBy, GivesFrame, Gave, Sends, ReportsLooks, FoundFits, found_as}
 use Rattle.core_contract.specs.Moves.{History}
-use Rattle.proxy_deeds.specs.Settings.{Means, speaks_remote}
+use Rattle.run_values.specs.Settings.{Means, speaks_remote}
 use Rattle.proxy_deeds.specs.Deeds.{AreInputs, looks_of, looks_from, lacks, send_asks, due_for, look_asks, room_at, FoundIn}
 use Rattle.proxy_deeds.specs.Told.{AreTold}
 use Rattle.proxy_deeds.proofs.Growing.{adds_none}

@@ -16,7 +16,7 @@ use Rattle.core_contract.specs.Ruled.{answer_after}
 use Rattle.core_contract.specs.Moves.{Past, History}
 use Rattle.core_contract.specs.Shelf.{child_at}
 use Rattle.core_contract.specs.Duties.{Duty, Asks, Launches, Sends, Cancels, Gathers, Commits, Kills, Left, duty_of}
-use Rattle.proxy_deeds.specs.Settings.{Means}
+use Rattle.run_values.specs.Settings.{Means}
 use Rattle.proxy_deeds.specs.declared.halt.ProxyHalt.{ProxyHalt}
 use Rattle.proxy_deeds.specs.declared.halt.ProxyHalt.TheVariants as cause
 use Rattle.proxy_deeds.specs.Deeds.{Deed, DeedOf, with_end, with_ends}

@@ -25,7 +25,7 @@ use Rattle.core_contract.specs.Discipline.{Discipline}
 use Rattle.core_contract.specs.Ruled.{answer_after}
 use Rattle.core_contract.specs.Moves.{Past, History}
 use Rattle.core_contract.specs.Duties.{Duty, Gathers, duty_of}
-use Rattle.proxy_deeds.specs.Settings.{Means, speaks_remote}
+use Rattle.run_values.specs.Settings.{Means, speaks_remote}
 use Rattle.proxy_deeds.specs.declared.halt.ProxyHalt.{ProxyHalt}
 use Rattle.proxy_deeds.specs.declared.halt.ProxyHalt.TheVariants as cause
 use Rattle.proxy_deeds.specs.Deeds.{Deed, DeedOf, IsCut, FoundIn, look_asks}

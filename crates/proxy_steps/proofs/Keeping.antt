@@ -13,7 +13,7 @@ use Rattle.sandbox_rooms.specs.Calls.{Made}
 use Rattle.order_acts.specs.Acts.{IsFeedFault, RoomFailed}
 use Rattle.core_contract.specs.Moves.{Past, History}
 use Rattle.core_contract.specs.Duties.{Asks, duty_of}
-use Rattle.proxy_deeds.specs.Settings.{Means}
+use Rattle.run_values.specs.Settings.{Means}
 use Rattle.proxy_deeds.specs.declared.halt.ProxyHalt.{ProxyHalt}
 use Rattle.proxy_deeds.specs.Deeds.{Deed, DeedOf, Acts, with_ends}
 use Rattle.proxy_deeds.specs.Lines.{Returned, RoseBy, room_fault, feed_fault, lines_of, listed, unsaid_by}

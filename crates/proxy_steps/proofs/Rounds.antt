@@ -20,8 +20,8 @@ use Rattle.core_contract.specs.Moves.{Past, History, ask_moves}
 use Rattle.core_contract.specs.Shelf.{child_at, child_by}
 use Rattle.core_contract.specs.Laws.{RunsOn, OrderFits, OrderHolds, lines_in}
 use Rattle.core_contract.specs.Duties.{Duty, Asks, Launches, Left, duty_by, duty_of, proxy_lane}
-use Rattle.proxy_deeds.specs.declared.settings.Settings.{Settings}
-use Rattle.proxy_deeds.specs.Settings.{AreOfPlan, HasGroup, Means}
+use Rattle.run_values.specs.declared.settings.Settings.{Settings}
+use Rattle.run_values.specs.Settings.{AreOfPlan, HasGroup, Means}
 use Rattle.proxy_deeds.specs.declared.halt.ProxyHalt.TheVariants as cause
 use Rattle.proxy_deeds.specs.Deeds.{DeedOf}
 use Rattle.proxy_deeds.specs.Lines.{started_in}

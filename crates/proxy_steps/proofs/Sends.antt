@@ -22,7 +22,7 @@ use Rattle.core_contract.specs.Discipline.{Discipline}
 use Rattle.core_contract.specs.Ruled.{answer_after}
 use Rattle.core_contract.specs.Moves.{History}
 use Rattle.core_contract.specs.Duties.{Duty, Sends, Cancels, duty_of}
-use Rattle.proxy_deeds.specs.Settings.{Means}
+use Rattle.run_values.specs.Settings.{Means}
 use Rattle.proxy_deeds.specs.declared.halt.ProxyHalt.{ProxyHalt}
 use Rattle.proxy_deeds.specs.Deeds.{Deed, DeedOf, IsCut}
 use Rattle.proxy_deeds.specs.Told.{AreTold}

@@ -25,7 +25,7 @@ use Rattle.core_contract.specs.Ruled.{answer_after}
 use Rattle.core_contract.specs.Moves.{Past, History}
 use Rattle.core_contract.specs.Laws.{lines_in}
 use Rattle.core_contract.specs.Duties.{Duty, Launches, duty_of}
-use Rattle.proxy_deeds.specs.Settings.{Means, command_for}
+use Rattle.run_values.specs.Settings.{Means, command_for}
 use Rattle.proxy_deeds.specs.declared.halt.ProxyHalt.{ProxyHalt}
 use Rattle.proxy_deeds.specs.Deeds.{Deed, DeedOf, IsLaunch, with_end}
 use Rattle.proxy_deeds.specs.Lines.{Returned, EndsLine, IsFed, IsKilled, RoseBy, room_fault, started_by, started_in, unsaid_by}

@@ -17,7 +17,7 @@ use Rattle.due_frames.specs.declared.frames.Due.{Due}
 use Rattle.due_frames.specs.Frames.{cancel_due}
 use Rattle.order_acts.specs.Acts.{GivenBy, Gave, RoomFailed, FeedFailed}
 use Rattle.core_contract.specs.Moves.{History}
-use Rattle.proxy_deeds.specs.Settings.{Means, speaks_remote}
+use Rattle.run_values.specs.Settings.{Means, speaks_remote}
 use Rattle.proxy_deeds.specs.Deeds.{Deed, AreInputs, looks_of, looks_from, lacks, SentAs, FoundIn, send_asks, due_for, look_asks}
 use Rattle.proxy_deeds.specs.Told.{AreTold}
 

@@ -9,7 +9,7 @@ use Rattle.outside.specs.Told.{BerthTold, FeedTold, ChildTold}
 use Rattle.core_contract.specs.Moves.{History}
 use Rattle.core_contract.specs.Laws.{lines_in}
 use Rattle.core_contract.specs.Duties.{Asks, duty_of}
-use Rattle.proxy_deeds.specs.Settings.{Means}
+use Rattle.run_values.specs.Settings.{Means}
 use Rattle.proxy_deeds.specs.declared.halt.ProxyHalt.{ProxyHalt}
 use Rattle.proxy_deeds.specs.Deeds.{Deed, Acts, given_to, with_ends}
 use Rattle.proxy_deeds.specs.Told.{AllTold}

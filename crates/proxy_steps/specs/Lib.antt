@@ -1,5 +1,4 @@
 -- What contracts cite of a proxy lane.
-pub mod Work
 pub mod Acts
 pub mod Lanes
 pub mod Steps

@@ -10,7 +10,7 @@ use Rattle.outside.specs.Told.{BerthTold}
 use Rattle.remote_messages.specs.declared.work.WorkAction.{WorkAction}
 use Rattle.run_plan.specs.declared.plan.Speech.{Speech}
 use Rattle.proxy_deeds.specs.declared.halt.ProxyHalt.{ProxyHalt}
-use Rattle.proxy_deeds.specs.declared.settings.Settings.{Settings}
+use Rattle.run_values.specs.declared.settings.Settings.{Settings}
 use Rattle.proxy_deeds.specs.Deeds.{Deed, calls_of, given_to}
 use Rattle.proxy_deeds.specs.Ends.{Ends}
 use Rattle.proxy_deeds.specs.Lines.{Returned, RoseBy, feed_faults, lines_of, listed, room_faults, started_in, unsaid_by}

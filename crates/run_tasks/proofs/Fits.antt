@@ -10,7 +10,7 @@ use Rattle.run_tasks.proofs.AtBerths.{commands_law, speeches_law}
 use Rattle.run_tasks.proofs.Spoken.{parts_law, same_test, speech_law}
 use Rattle.run_tasks.specs.Setup.{commands_for, speeches_for}
 use Rattle.plain_values.specs.declared.command.Command.{Command}
-use Rattle.proxy_steps.specs.Work.{IsWorkOf}
+use Rattle.run_values.specs.Work.{IsWorkOf}
 use Rattle.outside.specs.Told.{FloorTold}
 use Rattle.remote_messages.specs.declared.work.Work.{Work}
 use Rattle.remote_messages.specs.declared.work.WorkAction.{WorkAction}

@@ -1,7 +1,7 @@
 -- A few cases, worked through.
 use Rattle.std.proofs.Common.{◌≡◌, zero, suc, false, [], ◌∷◌, None, Err, refl, ap, sym}
 use Rattle.build_report.specs.declared.fault.RunFault.TheVariants as fault
-use Rattle.proxy_deeds.specs.Settings.{speaks_remote}
+use Rattle.run_values.specs.Settings.{speaks_remote}
 use Rattle.run_plan.specs.declared.plan.Kind.TheVariants as kind
 use Rattle.run_plan.specs.declared.plan.Plan.{Plan}
 use Rattle.run_plan.specs.declared.plan.Speech.TheVariants as speech

@@ -12,7 +12,7 @@ use Rattle.list_actions.specs.declared.types.ListAction.{ListAction}
 use Rattle.action_list.specs.Checks.{has_remote}
 use Rattle.action_list.specs.Keys.{keys_of}
 use Rattle.action_list.specs.Plans.{executor_groups, first_user, group_by, groups_of, is_key, key_group, local_key, local_of, number_of, plan_action, plan_actions, plan_of, remote_of, remote_users, share, users}
-use Rattle.history_laws.specs.Runnable.{EachHasBerth, HasBerth}
+use Rattle.run_values.specs.Runnable.{EachHasBerth, HasBerth}
 use Rattle.outside.specs.Told.{FloorTold}
 use Rattle.run_loading.specs.Reads.{Leads}
 use Rattle.run_plan.specs.declared.plan.Branch.TheVariants.{Local, Remote}

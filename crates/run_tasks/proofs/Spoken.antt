@@ -11,7 +11,7 @@ use Rattle.run_plan.specs.Groups.{is_remote}
 use Rattle.action_list.specs.declared.parts.GroupPart.{GroupPart}
 use Rattle.list_actions.specs.declared.types.ListAction.{ListAction}
 use Rattle.action_list.specs.Parts.{executor_part, user_part, user_of, part_of, parts_from, parts_of}
-use Rattle.proxy_deeds.specs.Settings.{speaks_remote}
+use Rattle.run_values.specs.Settings.{speaks_remote}
 use Rattle.run_tasks.specs.Setup.{speeches_for}
 use Rattle.run_tasks.specs.Laws.{PartsLaw, SpeechLaw}
 use Rattle.run_tasks.proofs.AtBerths.{seated, speeches_law}

@@ -1,9 +1,9 @@
 -- The work of a whole list is that of its plan.
-use Rattle.std.proofs.Common.{◌≡◌, ℕ, zero, suc, ◌+◌, ◌^◌, ◌<◌, Bool, true, false, cond, ◌||◌, leb, eqb, List, [], ◌∷◌, ◌++◌, length, map, Option, Some, None, Result, Ok, Err, slice_get, unwrap_or, option_map, refl, sym, ap, subst, ◌∙◌, arith, append_assoc}
+use Rattle.std.proofs.Common.{◌≡◌, ℕ, zero, suc, ◌+◌, ◌^◌, ◌<◌, Bool, true, false, cond, ◌||◌, leb, eqb, List, [], ◌∷◌, ◌++◌, length, map, Option, Some, None, Result, Ok, Err, slice_get, refl, sym, ap, subst, ◌∙◌, arith, append_assoc}
 use Rattle.std.proofs.lemmas.Bool.{and_from, and_parts, leb-true}
 use Rattle.std.proofs.lemmas.Bool.Decides.{nat_tests}
 use Rattle.std.proofs.lemmas.List.Elements.{All-cons, All-nil}
-use Rattle.std.specs.List.{All, cons_option, filter_map, find, list_all}
+use Rattle.std.specs.List.{All, cons_option, filter_map, find, list_all, list_any}
 use Rattle.std.specs.Str.{bytes_eq}
 use Rattle.run_plan.specs.declared.plan.Maker.{Maker}
 use Rattle.run_plan.specs.declared.plan.PlanAction.{PlanAction}
@@ -12,7 +12,6 @@ use Rattle.outside.specs.declared.floor.SourceFile.{SourceFile}
 use Rattle.remote_messages.specs.declared.work.WorkAction.{WorkAction}
 use Rattle.remote_messages.specs.declared.work.WorkInput.{WorkInput}
 use Rattle.exec_journal.specs.Scripts.{is_made}
-use Rattle.core_contract.specs.Duties.{is_maker}
 use Rattle.list_actions.specs.declared.types.ListAction.{ListAction}
 use Rattle.list_actions.specs.Answers.{Check, first}
 use Rattle.list_actions.specs.Order.{first_again, is_among, made_later, made_twice, name_twice, order_check, orders_check, outputs_of}
@@ -20,7 +19,7 @@ use Rattle.list_actions.specs.Made.{maker_of, producer_from, producer_in}
 use Rattle.action_list.specs.Plans.{plan_action, plan_actions}
 use Rattle.list_actions.proofs.Late.{is_among-append}
 use Rattle.run_loading.specs.Works.{bytes_at, due_work, due_words, origin_of, with_words, work_action, work_input, work_inputs}
-use Rattle.proxy_steps.specs.Work.{IsMadeBy, IsWork}
+use Rattle.run_values.specs.Work.{IsMadeBy, IsWork}
 
 -- ---- who makes a path
 
@@ -123,20 +122,24 @@ or_left : (p q : Bool) → p ≡ true → (p || q) ≡ true
 or_left true q e = refl
 or_left false q e = absurd (cc)
 
+-- one of the makers makes this output
+abbrev some_makes : List Maker → ℕ → ℕ → Bool
+some_makes ms a j = list_any (λ m. is_made m a j) ms
+
 -- all of the makers are among the others
 abbrev AreOf : List Maker → List Maker → Type 0
-AreOf ms all = (a j : ℕ) → is_maker ms a j ≡ true → is_maker all a j ≡ true
+AreOf ms all = (a j : ℕ) → some_makes ms a j ≡ true → some_makes all a j ≡ true
 
 kept : (o : Option Maker) (ms : List Maker) → AreOf ms (cons_option o ms)
 kept None ms a j e = e
-kept (Some m) ms a j e = or_right (is_made m a j) (is_maker ms a j) e
+kept (Some m) ms a j e = or_right (is_made m a j) (some_makes ms a j) e
 
 by_found : (all ms : List Maker) (bytes : List ℕ) (o : Option Maker)
     → AreOf (cons_option o ms) all → IsMadeBy all (origin_of o bytes)
 by_found all ms bytes None more = tt
 by_found all ms bytes (Some m) more =
     let own = is_made m m.action m.output in
-    more m.action m.output (or_left own (is_maker ms m.action m.output) (made_itself m))
+    more m.action m.output (or_left own (some_makes ms m.action m.output) (made_itself m))
 
 -- the inputs that are made are among these makers
 abbrev AreMade : List Maker → List WorkInput → Type 0
@@ -191,16 +194,11 @@ one_work before x rest files w ordered few due =
 
 -- ---- the work of all
 
-abbrev outputs_at : List PlanAction → ℕ → List (List ℕ)
-outputs_at ys a = unwrap_or (option_map (λ x. x.outputs) (slice_get ys a)) []
-
-abbrev makers_at : List PlanAction → ℕ → List Maker
-makers_at ys a = unwrap_or (option_map (λ x. x.makers) (slice_get ys a)) []
-
+-- the work of each of these actions is asked by it
 abbrev IsEach : List PlanAction → List WorkAction → Type 0
 IsEach ys ws =
-    (a : ℕ) (w : WorkAction) → slice_get ws a ≡ Some w
-    → IsWork (outputs_at ys a) (makers_at ys a) w
+    (a : ℕ) (y : PlanAction) (w : WorkAction) → slice_get ys a ≡ Some y → slice_get ws a ≡ Some w
+    → IsWork y.outputs y.makers w
 
 first_of : {X : Type 0} {a b : X} {xs ys : List X} → a ∷ xs ≡ b ∷ ys → a ≡ b
 first_of e = cc
@@ -210,9 +208,12 @@ later_of e = cc
 
 each_first : (y : PlanAction) (ys : List PlanAction) (w : WorkAction) (ws : List WorkAction)
     → IsWork y.outputs y.makers w → IsEach ys ws → IsEach (y ∷ ys) (w ∷ ws)
-each_first y ys w ws here later zero v at =
-    let same : w ≡ v = cc in subst (λ (u : WorkAction). IsWork y.outputs y.makers u) same here
-each_first y ys w ws here later (suc a) v at = later a v at
+each_first y ys w ws here later zero z v planned at =
+    let same : w ≡ v = cc in
+    let action : y ≡ z = cc in
+    subst (λ (x : PlanAction). IsWork x.outputs x.makers v) action
+    (subst (λ (u : WorkAction). IsWork y.outputs y.makers u) same here)
+each_first y ys w ws here later (suc a) z v planned at = later a z v planned at
 
 abbrev have_few : List ListAction → Bool
 have_few xs = list_all (λ x. leb (length x.outputs) 256) xs
@@ -224,7 +225,7 @@ HaveWork xs files rest ws = map (due_work (maker_of xs) files) rest ≡ map (λ 
 each_work : (keys : List (List ℕ)) (files : List SourceFile) (xs before rest : List ListAction)
     (ws : List WorkAction) → xs ≡ before ++ rest → orders_check before rest ≡ Ok tt
     → have_few rest ≡ true → HaveWork xs files rest ws → IsEach (plan_actions keys before rest) ws
-each_work keys files xs before [] [] is ordered few due = λ a w at. absurd (cc)
+each_work keys files xs before [] [] is ordered few due = λ a y w planned at. absurd (cc)
 each_work keys files xs before [] (w ∷ ws) is ordered few due = absurd (cc)
 each_work keys files xs before (x ∷ rest) [] is ordered few due = absurd (cc)
 each_work keys files xs before (x ∷ rest) (w ∷ ws) is ordered few due =

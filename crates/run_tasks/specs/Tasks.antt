@@ -5,8 +5,8 @@ use Rattle.action_list.specs.Parts.{parts_of}
 use Rattle.action_list.specs.Plans.{plan_of}
 use Rattle.list_actions.specs.declared.types.ListAction.{ListAction}
 use Rattle.run_tasks.specs.Setup.{commands_for, speeches_for}
-use Rattle.proxy_deeds.specs.Settings.{speaks_remote}
-use Rattle.proxy_steps.specs.Work.{IsWorkOf}
+use Rattle.run_values.specs.Settings.{speaks_remote}
+use Rattle.run_values.specs.Work.{IsWorkOf}
 use Rattle.run_plan.specs.Groups.{berths, is_remote, kind_of}
 use Rattle.run_plan.specs.Sound.{Sound}
 use Rattle.run_plan.specs.declared.plan.Plan.{Plan}

@@ -3,7 +3,7 @@ ghost use Rattle.std.specs.Prelude.{◌≡◌, IfOk, map, string_bytes};
 ghost use Rattle.action_list.specs.Lists.{list_of};
 ghost use Rattle.list_actions.specs.Whole.{IsWhole};
 ghost use Rattle.generated_list.specs.Generated.{generated_text};
-ghost use Rattle.history_laws.specs.Runnable.{EachHasBerth};
+ghost use Rattle.run_values.specs.Runnable.{EachHasBerth};
 ghost use Rattle.outside.specs.Causes.{Counts};
 ghost use Rattle.outside.specs.Told.{SameFloor};
 ghost use Rattle.run_loading.specs.Reads.{IsFloorFailed, Leads, end_of};

@@ -7,7 +7,7 @@ use Rattle.run_plan.specs.declared.plan.Kind.TheVariants as kind
 use Rattle.run_plan.specs.declared.plan.Plan.{Plan}
 use Rattle.run_plan.specs.declared.plan.Speech.{Speech}
 use Rattle.run_plan.specs.Groups.{is_remote}
-use Rattle.proxy_deeds.specs.Settings.{speaks_remote}
+use Rattle.run_values.specs.Settings.{speaks_remote}
 use Rattle.run_tasks.specs.declared.task.Task.{Task}
 use Rattle.shared_berths.specs.declared.SharedBerths.{SharedBerths}
 use Rattle.shared_berths.specs.Laws.{basis_is}

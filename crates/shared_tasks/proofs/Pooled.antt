@@ -8,7 +8,7 @@ use Rattle.std.proofs.lemmas.List.{length-replicate}
 use Rattle.std.proofs.lemmas.List.Sums.{sum_by-append, sum_by-cons}
 use Rattle.exec_journal.proofs.Ruled.{by_bool}
 use Rattle.action_list.specs.declared.parts.GroupPart.{GroupPart}
-use Rattle.proxy_deeds.specs.Settings.{speaks_remote}
+use Rattle.run_values.specs.Settings.{speaks_remote}
 use Rattle.run_plan.specs.declared.plan.Speech.{Speech}
 use Rattle.run_plan.specs.declared.plan.Speech.TheVariants as speech
 use Rattle.run_tasks.proofs.AtBerths.{get_front, get_behind}

@@ -12,8 +12,8 @@ use Rattle.action_list.proofs.SoundActions.{sound_plan}
 use Rattle.list_actions.specs.Whole.{IsWhole}
 use Rattle.list_actions.specs.declared.types.ListAction.{ListAction}
 use Rattle.outside.specs.Told.{FloorTold}
-use Rattle.proxy_deeds.specs.Settings.{speaks_remote}
-use Rattle.proxy_steps.specs.Work.{IsWorkOf}
+use Rattle.run_values.specs.Settings.{speaks_remote}
+use Rattle.run_values.specs.Work.{IsWorkOf}
 use Rattle.remote_messages.specs.declared.work.Work.{Work}
 use Rattle.run_loading.specs.Course.{WorkRead}
 use Rattle.run_loading.specs.Reads.{Reads}

@@ -4,7 +4,7 @@ use Rattle.action_list.specs.declared.parts.GroupPart.{GroupPart}
 use Rattle.action_list.specs.Parts.{parts_of}
 use Rattle.action_list.specs.Plans.{plan_of}
 use Rattle.list_actions.specs.declared.types.ListAction.{ListAction}
-use Rattle.proxy_steps.specs.Work.{IsWorkOf}
+use Rattle.run_values.specs.Work.{IsWorkOf}
 use Rattle.run_plan.specs.declared.plan.Group.{Group}
 use Rattle.run_plan.specs.declared.plan.Plan.{Plan}
 use Rattle.run_plan.specs.declared.plan.Speech.{Speech}
@@ -12,7 +12,7 @@ use Rattle.run_plan.specs.Groups.{berths}
 use Rattle.run_plan.specs.Sound.{Sound}
 use Rattle.run_tasks.specs.Setup.{commands_for}
 use Rattle.run_tasks.specs.declared.task.Task.{Task}
-use Rattle.proxy_deeds.specs.Settings.{speaks_remote}
+use Rattle.run_values.specs.Settings.{speaks_remote}
 use Rattle.shared_rules.specs.declared.pools.SharedPlan.{SharedPlan}
 use Rattle.shared_rules.specs.declared.pools.SharedPool.{SharedPool}
 use Rattle.shared_rules.specs.Pools.{SoundPools, is_remote_berth, seats}

@@ -3,7 +3,7 @@ use Rattle.std.proofs.Common.{◌*◌, ◌+◌, ◌≡◌, ℕ, zero, suc, List}
 use Rattle.core_contract.specs.Disciplines.{LegalBy, own_discipline}
 use Rattle.delay_rules.specs.Delayed.{delayed_discipline}
 use Rattle.exec_journal.specs.Entry.{Entry}
-use Rattle.history_laws.specs.Runnable.{EachHasBerth}
+use Rattle.run_values.specs.Runnable.{EachHasBerth}
 use Rattle.progress_laws.proofs.Delay as delay
 use Rattle.progress_laws.proofs.Moments.{never_stuck}
 use Rattle.progress_laws.proofs.Own as own

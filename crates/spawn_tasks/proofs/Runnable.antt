@@ -5,7 +5,7 @@ use Rattle.std.proofs.lemmas.List.{length-map}
 use Rattle.std.proofs.lemmas.Option.{slice_get-get_or, slice_get_within}
 use Rattle.action_list.specs.Keys.{keys_of}
 use Rattle.action_list.specs.Plans.{executor_groups, plan_actions}
-use Rattle.history_laws.specs.Runnable.{EachHasBerth}
+use Rattle.run_values.specs.Runnable.{EachHasBerth}
 use Rattle.list_actions.specs.declared.types.ListAction.{ListAction}
 use Rattle.run_plan.specs.declared.plan.Branch.{Branch}
 use Rattle.run_plan.specs.declared.plan.Branch.TheVariants.{Local, Remote}

@@ -2,7 +2,7 @@
 use Rattle.std.proofs.Common.{◌≡◌, ℕ, ◌≤◌, List, [], ◌∷◌, length, map, Option, None, Result, Ok, Err, IfOk, refl, sym, ap, subst, ◌∙◌}
 use Rattle.action_list.specs.Lists.{list_of}
 use Rattle.build_report.specs.declared.fault.RunFault.TheVariants as fault
-use Rattle.history_laws.specs.Runnable.{EachHasBerth}
+use Rattle.run_values.specs.Runnable.{EachHasBerth}
 use Rattle.list_actions.specs.declared.faults.ListFault.{ListFault}
 use Rattle.list_actions.specs.declared.types.ActionList.{ActionList}
 use Rattle.list_actions.specs.Made.{maker_of}
@@ -12,7 +12,7 @@ use Rattle.outside.specs.declared.answers.Read.TheVariants as read
 use Rattle.outside.specs.declared.floor.FloorRead.{FloorRead}
 use Rattle.outside.specs.declared.floor.SourceFile.{SourceFile}
 use Rattle.outside.specs.Told.{FloorTold}
-use Rattle.proxy_steps.specs.Work.{IsWorkOf}
+use Rattle.run_values.specs.Work.{IsWorkOf}
 use Rattle.remote_messages.specs.declared.work.Work.{Work}
 use Rattle.run_loading.specs.declared.loading.Loaded.{Loaded}
 use Rattle.run_loading.specs.Course.{AfterList, BytesRead, ListFirst, Loads}

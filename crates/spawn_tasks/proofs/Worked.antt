@@ -1,5 +1,5 @@
 -- The work of a whole list, with the words of its requests, is that of the chosen plan.
-use Rattle.std.proofs.Common.{◌≡◌, ℕ, zero, suc, ◌+◌, ◌^◌, ◌<◌, true, false, cond, List, [], ◌∷◌, ◌++◌, length, map, Option, Some, None, Result, Ok, Err, slice_get, unwrap_or, option_map, refl, sym, ap, subst, ◌∙◌, arith}
+use Rattle.std.proofs.Common.{◌≡◌, ℕ, zero, suc, ◌+◌, ◌^◌, ◌<◌, true, false, cond, List, [], ◌∷◌, ◌++◌, length, map, Option, Some, None, Result, Ok, Err, slice_get, refl, sym, ap, subst, ◌∙◌, arith}
 use Rattle.std.proofs.lemmas.List.{length-map, map-append}
 use Rattle.std.specs.List.{All, filter_map}
 use Rattle.action_list.specs.Keys.{keys_of}
@@ -9,7 +9,7 @@ use Rattle.list_actions.specs.declared.types.ListAction.{ListAction}
 use Rattle.list_actions.specs.Made.{maker_of, producer_from, producer_in}
 use Rattle.list_actions.specs.Whole.{IsWhole}
 use Rattle.outside.specs.declared.floor.SourceFile.{SourceFile}
-use Rattle.proxy_steps.specs.Work.{IsMadeBy, IsWork, IsWorkOf}
+use Rattle.run_values.specs.Work.{IsMadeBy, IsWork, IsWorkOf}
 use Rattle.remote_messages.specs.declared.work.WorkAction.{WorkAction}
 use Rattle.remote_messages.specs.declared.work.WorkInput.{WorkInput}
 use Rattle.run_loading.specs.Works.{due_work}
@@ -35,27 +35,20 @@ View = List (List ℕ) × List Maker
 abbrev seen : PlanAction → View
 seen y = (y.outputs, y.makers)
 
-abbrev outputs_in : List View → ℕ → List (List ℕ)
-outputs_in vs a = unwrap_or (option_map (λ v. v.0) (slice_get vs a)) []
+first_of : {X : Type 0} {a b : X} {xs ys : List X} → a ∷ xs ≡ b ∷ ys → a ≡ b
+first_of e = cc
 
-abbrev makers_in : List View → ℕ → List Maker
-makers_in vs a = unwrap_or (option_map (λ v. v.1) (slice_get vs a)) []
+later_of : {X : Type 0} {a b : X} {xs ys : List X} → a ∷ xs ≡ b ∷ ys → xs ≡ ys
+later_of e = cc
 
-abbrev outputs_at : List PlanAction → ℕ → List (List ℕ)
-outputs_at ys a = unwrap_or (option_map (λ y. y.outputs) (slice_get ys a)) []
-
-abbrev makers_at : List PlanAction → ℕ → List Maker
-makers_at ys a = unwrap_or (option_map (λ y. y.makers) (slice_get ys a)) []
-
-outputs_seen : (ys : List PlanAction) (a : ℕ) → outputs_in (map seen ys) a ≡ outputs_at ys a
-outputs_seen [] a = refl
-outputs_seen (y ∷ ys) zero = refl
-outputs_seen (y ∷ ys) (suc a) = outputs_seen ys a
-
-makers_seen : (ys : List PlanAction) (a : ℕ) → makers_in (map seen ys) a ≡ makers_at ys a
-makers_seen [] a = refl
-makers_seen (y ∷ ys) zero = refl
-makers_seen (y ∷ ys) (suc a) = makers_seen ys a
+-- where two lists of actions are seen alike, each action has one that is seen as it is
+seen_at : (ys zs : List PlanAction) (a : ℕ) (y : PlanAction) → map seen ys ≡ map seen zs
+    → slice_get ys a ≡ Some y → (z : PlanAction) × (slice_get zs a ≡ Some z) × (seen z ≡ seen y)
+seen_at [] zs a y alike at = absurd (cc)
+seen_at (x ∷ ys) [] a y alike at = absurd (cc)
+seen_at (x ∷ ys) (z ∷ zs) zero y alike at =
+    let is : x ≡ y = cc in (z, refl, sym (first_of alike) ∙ ap seen is)
+seen_at (x ∷ ys) (z ∷ zs) (suc a) y alike at = seen_at ys zs a y (later_of alike) at
 
 -- ---- the actions of both plans are seen alike
 
@@ -118,12 +111,6 @@ same_parts n x w v e =
         inputs = ap (λ (u : WorkAction). u.inputs) (sym same);
       })
     ] e
-
-first_of : {X : Type 0} {a b : X} {xs ys : List X} → a ∷ xs ≡ b ∷ ys → a ≡ b
-first_of e = cc
-
-later_of : {X : Type 0} {a b : X} {xs ys : List X} → a ∷ xs ≡ b ∷ ys → xs ≡ ys
-later_of e = cc
 
 moved : (outputs : List (List ℕ)) (makers : List Maker) (w v : WorkAction) → SameParts w v
     → IsWork outputs makers w → IsWork outputs makers v
@@ -193,15 +180,9 @@ module _ (o : SpawnOptions) (xs : List ListAction) (whole : IsWhole xs) (files :
       subst (λ (q : Plan). IsWorkOf q vs) is.1 (record {
         as_many = k.0 ∙ all.0 ∙ sym (length-map loaded_plan seen) ∙ ap length (sym alike)
             ∙ length-map due.actions seen;
-        each = λ a v at. let w = k.1 a v at in
-            let outputs : outputs_at loaded_plan a ≡ outputs_at due.actions a =
-            sym (outputs_seen loaded_plan a) ∙ ap (λ us. outputs_in us a) (sym alike)
-            ∙ outputs_seen due.actions a in
-            let makers : makers_at loaded_plan a ≡ makers_at due.actions a =
-            sym (makers_seen loaded_plan a) ∙ ap (λ us. makers_in us a) (sym alike)
-            ∙ makers_seen due.actions a in
-            subst (λ (os : List (List ℕ)). IsWork os (makers_at due.actions a) v) outputs
-            (subst (λ (ms : List Maker). IsWork (outputs_at loaded_plan a) ms v) makers
-            (moved (outputs_at loaded_plan a) (makers_at loaded_plan a) w.0 v w.2
-            (all.1 a w.0 w.1)));
+        each = λ a y v planned at.
+            let w = k.1 a v at in
+            let z = seen_at due.actions loaded_plan a y alike planned in
+            subst (λ (s : View). IsWork s.0 s.1 v) z.2
+            (moved z.0.outputs z.0.makers w.0 v w.2 (all.1 a z.0 w.0 z.1 w.1));
       })

@@ -3,7 +3,7 @@ use Rattle.std.specs.Prelude.{◌≡◌, ◌≤◌, ℕ, false, if◌then◌else
 use Rattle.std.specs.List.{list_any}
 use Rattle.action_list.specs.declared.parts.GroupPart.{GroupPart}
 use Rattle.action_list.specs.Parts.{executor_part, parts_of}
-use Rattle.history_laws.specs.Runnable.{EachHasBerth}
+use Rattle.run_values.specs.Runnable.{EachHasBerth}
 use Rattle.list_actions.specs.declared.types.ListAction.{ListAction}
 use Rattle.run_plan.specs.declared.plan.Group.{Group}
 use Rattle.run_plan.specs.declared.plan.Plan.{Plan}

@@ -6,7 +6,7 @@ use Rattle.build_report.specs.declared.fault.Stage.TheVariants as stage
 use Rattle.exec_journal.specs.declared.call.Call.{Call}
 use Rattle.exec_journal.specs.declared.reply.Reply.{Reply}
 use Rattle.run_plan.specs.declared.plan.Speech.{Speech}
-use Rattle.proxy_deeds.specs.declared.settings.Settings.{Settings}
+use Rattle.run_values.specs.declared.settings.Settings.{Settings}
 use Rattle.proxy_deeds.specs.Lines.{Returned}
 use Rattle.lane_runs.specs.Runs.{EndTold, HasRun, Rooms}
 use Rattle.outside.specs.Told.{BerthTold, FloorTold, Makes, PlaceTold, SameFloor}

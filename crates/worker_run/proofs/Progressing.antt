@@ -1,7 +1,7 @@
 -- A run on the plan's own berths never waits for itself, and its journal has few entries.
 use Rattle.std.proofs.Common.{◌*◌, ◌≡◌}
 use Rattle.core_contract.specs.Disciplines.{own_discipline}
-use Rattle.history_laws.specs.Runnable.{EachHasBerth}
+use Rattle.run_values.specs.Runnable.{EachHasBerth}
 use Rattle.progress_laws.proofs.Moments.{never_stuck}
 use Rattle.progress_laws.proofs.Own.{ends_or_waits}
 use Rattle.progress_laws.proofs.counts.Disciplines.{own_few}

@@ -33,7 +33,7 @@ use Rattle.run_plan.specs.declared.plan.PlanAction.{PlanAction}
 use Rattle.run_plan.specs.declared.plan.Speech.{Speech}
 use Rattle.remote_messages.specs.declared.work.WorkAction.{WorkAction}
 use Rattle.core_contract.specs.Duties.{proxy_lane}
-use Rattle.proxy_deeds.specs.declared.settings.Settings.{Settings}
+use Rattle.run_values.specs.declared.settings.Settings.{Settings}
 use Rattle.run_tasks.specs.declared.task.Task.{Task}
 use Rattle.core_contract.specs.Ruled.{answer_after, journal_of}
 use Rattle.worker_run.proofs.Histories.{halted_is, newest_is, stopped_is}

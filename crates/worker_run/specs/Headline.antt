@@ -14,7 +14,7 @@ use Rattle.core_contract.specs.Discipline.{Discipline}
 use Rattle.core_contract.specs.Disciplines.{LegalBy, own_discipline}
 use Rattle.core_contract.specs.Ruled.{answer_after}
 use Rattle.journal_laws.specs.Finished.{Finished}
-use Rattle.proxy_deeds.specs.declared.settings.Settings.{Settings}
+use Rattle.run_values.specs.declared.settings.Settings.{Settings}
 use Rattle.proxy_deeds.specs.Lines.{Returned, IsKilled}
 use Rattle.lane_runs.specs.Layout.{has_halt}
 use Rattle.lane_runs.specs.Runs.{Outs, Pipes, Rooms, Stops}

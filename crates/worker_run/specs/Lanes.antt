@@ -5,12 +5,12 @@ use Rattle.build_report.specs.declared.fault.Stage.TheVariants as stage
 use Rattle.exec_journal.specs.declared.call.Call.{Call}
 use Rattle.exec_journal.specs.declared.reply.Reply.{Reply}
 use Rattle.run_plan.specs.declared.plan.Speech.{Speech}
-use Rattle.proxy_deeds.specs.declared.settings.Settings.{Settings}
+use Rattle.run_values.specs.declared.settings.Settings.{Settings}
 use Rattle.lane_runs.specs.Runs.{HasRun}
 use Rattle.lane_runs.specs.Seats.{SpeechesFit}
 use Rattle.outside.specs.Lists.{Tells}
 use Rattle.outside.specs.Told.{BerthTold, FloorTold, PlaceTold}
-use Rattle.proxy_steps.specs.Work.{IsWorkOf}
+use Rattle.run_values.specs.Work.{IsWorkOf}
 use Rattle.remote_messages.specs.declared.work.WorkAction.{WorkAction}
 use Rattle.run_plan.specs.Limits.{most_actions, most_berths}
 use Rattle.core_contract.specs.Discipline.{Discipline}

@@ -20,7 +20,7 @@ use exec_journal::Journal;
 use lane_runs::AllMeans;
 use outside::{Berth, Floor, Io, Sink};
 use plain_values::NoMemory;
-use proxy_deeds::Settings;
+use run_values::Settings;
 use run_progress::Notes;
 use run_tasks::{Task, read_task};
 use spawn_core::Core;

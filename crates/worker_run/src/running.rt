@@ -1,9 +1,9 @@
 // The lanes of a plan, run on threads.
 ghost use Rattle.std.specs.Prelude.{◌≡◌, ◌≤◌, [], length, map, Some, None};
 ghost use Rattle.lane_runs.specs.Seats.{SpeechesFit};
-ghost use Rattle.proxy_deeds.specs.Settings.{AreOfPlan};
+ghost use Rattle.run_values.specs.Settings.{AreOfPlan};
 ghost use Rattle.build_report.specs.declared.fault.Stage.TheVariants as stage;
-ghost use Rattle.proxy_steps.specs.Work.{IsWorkOf};
+ghost use Rattle.run_values.specs.Work.{IsWorkOf};
 ghost use Rattle.core_contract.specs.Duties.{proxy_lane};
 ghost use Rattle.lane_crew.specs.Beside.{count_of};
 ghost use Rattle.lane_runs.specs.Paced.{HasPaced, MayPace};

@@ -21,7 +21,7 @@ use Rattle.core_contract.specs.Disciplines.{LegalBy}
 use Rattle.delay_rules.specs.Delayed.{delayed_discipline, delayed_earliest, has_waited, ticks_since}
 use Rattle.progress_laws.specs.Awaits.{Awaits}
 use Rattle.progress_laws.specs.Rests.{AllRest, Hears, Idles}
-use Rattle.history_laws.specs.Runnable.{EachHasBerth, HasBerth}
+use Rattle.run_values.specs.Runnable.{EachHasBerth, HasBerth}
 use Rattle.progress_laws.proofs.Delay.{never_stuck}
 use Rattle.progress_laws.proofs.Ticks.{none_waits_unticked}
 use Rattle.progress_laws.proofs.Options.{some_same}

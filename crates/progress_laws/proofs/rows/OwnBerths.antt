@@ -20,7 +20,7 @@ use Rattle.history_laws.proofs.OwnDiscipline.{legal_own}
 use Rattle.core_contract.specs.Disciplines.{LegalBy, own_discipline}
 use Rattle.progress_laws.specs.Awaits.{Awaits}
 use Rattle.progress_laws.specs.Rests.{AllRest, Hears, Idles}
-use Rattle.history_laws.specs.Runnable.{EachHasBerth, HasBerth}
+use Rattle.run_values.specs.Runnable.{EachHasBerth, HasBerth}
 use Rattle.progress_laws.proofs.Options.{some_same}
 use Rattle.progress_laws.proofs.Own.{never_stuck}
 

@@ -4,9 +4,9 @@ use Rattle.core_bench.specs.Objects.{AreFresh}
 use Rattle.lane_runs.specs.declared.proxies.ProxySeat.{ProxySeat}
 use Rattle.lane_runs.specs.Paced.{MayPace, pacer_back}
 use Rattle.tap_lane.specs.declared.seat.TapSeat.{TapSeat}
-use Rattle.proxy_deeds.specs.Settings.{AreOfPlan}
+use Rattle.run_values.specs.Settings.{AreOfPlan}
 use Rattle.lane_runs.specs.Seats.{berths_in}
-use Rattle.proxy_steps.specs.Work.{IsWorkOf}
+use Rattle.run_values.specs.Work.{IsWorkOf}
 use Rattle.lane_runs.proofs.Running.{FitFrom, all_fit, all_may}
 use Rattle.lane_runs.proofs.Ticking.{back_is, seat_gone, seat_may, seat_others, seat_paced}
 use Rattle.lane_runs.proofs.Seating.{seated_berths}

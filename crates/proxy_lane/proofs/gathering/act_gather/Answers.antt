@@ -7,7 +7,7 @@ use Rattle.sandbox_rooms.specs.Calls.{Asked}
 use Rattle.sandbox_rooms.specs.Rooms.{gather_asks}
 use Rattle.sandbox_rooms.proofs.Runs.{made_none}
 use Rattle.order_acts.specs.Acts.{ReportsLooks}
-use Rattle.proxy_deeds.specs.Settings.{speaks_remote}
+use Rattle.run_values.specs.Settings.{speaks_remote}
 use Rattle.due_frames.specs.Requests.{room_for}
 use Rattle.seat_desk.specs.Passes.{basis, seen}
 use Rattle.proxy_deeds.specs.Deeds.{FoundIn, look_asks}

@@ -9,7 +9,7 @@ use Rattle.remote_messages.specs.declared.file.NamedFile.{NamedFile}
 use Rattle.remote_messages.specs.declared.work.WorkInput.{WorkInput}
 use Rattle.proxy_deeds.specs.Deeds.{AreInputs, look_at, looks_of}
 use Rattle.proxy_deeds.specs.Told.{AreTold}
-use Rattle.proxy_steps.specs.Work.{IsMadeBy}
+use Rattle.run_values.specs.Work.{IsMadeBy}
 use Rattle.proxy_steps.proofs.Serving.{by_rules}
 use Rattle.proxy_steps.proofs.Filing.{inputs_more, input_told, take_next}
 use Rattle.proxy_lane.proofs.Siting.{due_on, stays_at, stays_on}

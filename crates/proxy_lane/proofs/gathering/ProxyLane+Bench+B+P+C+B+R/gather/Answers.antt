@@ -2,7 +2,7 @@ use Rattle.std.specs.Prelude.{OnOk, IfErr}
 use Rattle.std.proofs.Common.{◌≡◌, ℕ, Result, refl, ap, ◌∙◌}
 use Rattle.seat_desk.specs.declared.machine.Machine.{Ghosts}
 use Rattle.seat_desk.specs.declared.desk.Pass.{Pass}
-use Rattle.seat_desk.specs.Passes.{mine}
+use Rattle.seat_desk.specs.Passes.{basis, mine}
 use Rattle.exec_journal.specs.declared.attempt.Attempt.{Attempt}
 use Rattle.exec_journal.specs.declared.call.Call.{Call}
 use Rattle.exec_journal.specs.declared.call.Found.{Found}
@@ -14,7 +14,7 @@ use Rattle.proxy_calls.specs.Calls.{MakesNone}
 use Rattle.proxy_steps.specs.Steps.{open_in, ClaimsFound, IsCauseOfClaim}
 use Rattle.proxy_steps.proofs.Shelving.{claim_shelved}
 use Rattle.proxy_steps.proofs.Founds.{gather_goes, gather_cut, claim_halts}
-use Rattle.proxy_lane.proofs.Siting.{obeys_by, same_on, site_on, stays_at, still_tidy, work_on, ordered_at, obeys_at}
+use Rattle.proxy_lane.proofs.Siting.{obeys_by, same_on, site_on, stays_at, still_tidy, work_at, work_on, ordered_at, obeys_at}
 use Rattle.proxy_lane.specs.Held.{held_of}
 use Rattle.proxy_lane.specs.Sites.{means_at}
 use Rattle.proxy_lane.proofs.gathering.ProxyLane+Bench+B+P+C+B+R.gather.Goals as goal
@@ -39,8 +39,9 @@ act_gather-requires g c = record {
   at_site = (ordered_at g.C.Rules.discipline g.B.Child.Child.told _ _ c.args.self.now c.self.view_is c.requires).at_site;
   owes = (ordered_at g.C.Rules.discipline g.B.Child.Child.told _ _ c.args.self.now c.self.view_is c.requires).may.0;
   group = (ordered_at g.C.Rules.discipline g.B.Child.Child.told _ _ c.args.self.now c.self.view_is c.requires).may.3;
-  of_action = (ordered_at g.C.Rules.discipline g.B.Child.Child.told _ _ c.args.self.now c.self.view_is c.requires).at_site.work.each c.args.answer.now.attempt.action c.action_at-work.result.now
-      c.action_at-work.ensures;
+  of_action = work_at (g.C.Rules.discipline (basis c.self.inside.0.1.0.pass)).plan
+      c.self.inside.0.0.actions.now c.args.answer.now.attempt.action c.action_at-work.result.now
+      (ordered_at g.C.Rules.discipline g.B.Child.Child.told _ _ c.args.self.now c.self.view_is c.requires).at_site.work c.action_at-work.ensures;
 }
 
 pub claim_found-requires : goal.claim_found-requires
@@ -55,7 +56,8 @@ claim_found-requires g c =
       at_site = site_on rules c.self.inside.0.0 p p1 same (ordered_at g.C.Rules.discipline g.B.Child.Child.told _ _ c.args.self.now c.self.view_is c.requires).at_site;
       may = c.in-Ok.ensures.may;
       of_action = work_on rules c.self.inside.0.0 p p1 a work same
-          ((ordered_at g.C.Rules.discipline g.B.Child.Child.told _ _ c.args.self.now c.self.view_is c.requires).at_site.work.each a work c.action_at-work.ensures);
+          (work_at (rules (basis p)).plan c.self.inside.0.0.actions.now a work
+          (ordered_at g.C.Rules.discipline g.B.Child.Child.told _ _ c.args.self.now c.self.view_is c.requires).at_site.work c.action_at-work.ensures);
     }
 
 pub returns-in-Err : goal.returns-in-Err

@@ -13,7 +13,7 @@ use Rattle.proxy_steps.proofs.Shelving.{wrote_shelved}
 use Rattle.proxy_steps.proofs.Sends.{send_goes, send_halts}
 use Rattle.proxy_lane.specs.Held.{held_of}
 use Rattle.proxy_lane.specs.Sites.{means_at, ReportsWrote}
-use Rattle.proxy_lane.proofs.Siting.{obeys_by, same_on, site_on, still_tidy, ordered_at, obeys_at}
+use Rattle.proxy_lane.proofs.Siting.{obeys_by, same_on, site_on, still_tidy, work_at, ordered_at, obeys_at}
 use Rattle.proxy_lane.proofs.sending.ProxyLane+Bench+B+P+C+B+R.send.Goals as goal
 
 pub act_send-wrote-requires : goal.act_send-wrote-requires
@@ -22,7 +22,9 @@ act_send-wrote-requires g c = record {
   owes = subst (λ (n : ℤ). duty_of (mine c.self.inside.0.1.0.pass) ≡ Sends c.args.line n c.args.attempt)
       (sym (to_z-of_z c.ranges.number)) (ordered_at g.C.Rules.discipline g.B.Child.Child.told _ _ c.args.self.now c.self.view_is c.requires).may.0;
   group = (ordered_at g.C.Rules.discipline g.B.Child.Child.told _ _ c.args.self.now c.self.view_is c.requires).may.4;
-  of_action = (ordered_at g.C.Rules.discipline g.B.Child.Child.told _ _ c.args.self.now c.self.view_is c.requires).at_site.work.each c.args.attempt.action c.action_at-work.result.now c.action_at-work.ensures;
+  of_action = work_at (g.C.Rules.discipline (basis c.self.inside.0.1.0.pass)).plan
+      c.self.inside.0.0.actions.now c.args.attempt.action c.action_at-work.result.now
+      (ordered_at g.C.Rules.discipline g.B.Child.Child.told _ _ c.args.self.now c.self.view_is c.requires).at_site.work c.action_at-work.ensures;
 }
 
 pub report-requires-clause-site : goal.report-requires-clause-site

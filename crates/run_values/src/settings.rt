@@ -1,9 +1,9 @@
 ghost use Rattle.std.specs.Prelude.{◌≡◌, Some};
 ghost use Rattle.exec_journal.specs.Seated.{group_for, kind_for};
-ghost use Rattle.proxy_deeds.specs.Settings.{HasGroup, command_for};
+ghost use Rattle.run_values.specs.Settings.{HasGroup, command_for};
 
 use exec_journal::Attempt;
-use outside::Command;
+use plain_values::Command;
 use run_plan::{Branch, Kind, Plan};
 
 /// The settings for lines: the plan, whose groups run the branches, a command for each group, and
