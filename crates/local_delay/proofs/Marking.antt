@@ -1,9 +1,10 @@
 -- Marking, an action at a time, and the search for the next mark.
-use Rattle.std.proofs.Common.{◌≡◌, ℕ, ◌+◌, ◌-◌, ◌<◌, ◌≤◌, ◌==◌, nat_le, false, List, length, drop, set, Some, None, refl, ap, sym, subst, ◌∙◌, arith, length-set}
-use Rattle.std.specs.Prelude.{slice_index}
+use Rattle.std.proofs.Common.{◌≡◌, ℕ, ◌+◌, ◌-◌, ◌<◌, ◌≤◌, ◌==◌, nat_le, false, List, length, drop, set, Option, Some, None, refl, ap, sym, subst, ◌∙◌, arith, length-set}
+use Rattle.std.specs.Prelude.{slice_index, unwrap_or}
 use Rattle.std.proofs.lemmas.Bool.{eq-eqb, eqb-true, eqb-false, false_from_ne_true}
 use Rattle.std.proofs.lemmas.List.{get_or-drop, get_or-set_same, get_or-set_other, length-drop}
 use Rattle.exec_journal.proofs.Ruled.{by_bool}
+use Rattle.ready_order.proofs.Places.{set_beside, set_here}
 use Rattle.memchr.specs.Find.{IsFirstByte, Passes, is_byte}
 use Rattle.local_delay.specs.Counts.{Facts, Unmarked, count_at, is_action, is_marked}
 use Rattle.local_delay.specs.Walked.{IsNextMark, NextMark}
@@ -97,6 +98,36 @@ module _ (f : Facts) where
           (λ _ _. refl) refl,
     );
   }
+
+-- ---- a step of a Tick
+
+-- one more is counted, and marked where it waits for no more Ticks
+module _ (f : Facts) (n : ℕ) (counts marks : List ℕ) (v : ℕ)
+    (so : MarkedBelow (record f { counts = counts }) n marks) (within : n < length counts)
+    (size : length counts ≡ length marks) where
+  abbrev counted : Facts
+  counted = record f { counts = set counts n v }
+
+  count_here : count_at counted n ≡ v
+  count_here = ap (λ (o : Option ℕ). unwrap_or o 0) (set_here counts n v within)
+
+  stays : MarkedBelow counted n marks
+  stays = record {
+    size = so.size;
+    each = λ a lt un. let was = so.each a lt un in (
+      was.0,
+      λ near. ap (λ (o : Option ℕ). nat_le f.ticks (unwrap_or o 0))
+          (set_beside counts n a v (λ same. absurd (omega (arith, near, same)))) ∙ was.1 near,
+    );
+  }
+
+  pub counted_marked : MarkedBelow counted (n + 1) (set marks n 1)
+  counted_marked = next_marked counted n marks stays (omega (arith, within, size))
+
+  pub counted_unmarked : nat_le f.ticks v ≡ false → MarkedBelow counted (n + 1) marks
+  counted_unmarked short =
+      next_unmarked counted n marks stays (omega (arith, within, size))
+      (ap (nat_le f.ticks) count_here ∙ short)
 
 -- ---- the next mark
 

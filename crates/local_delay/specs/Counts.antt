@@ -33,13 +33,6 @@ pub record Unmarked (f g : Facts) (these : ℕ → Bool) : Type 0 where
   pub each : (a : ℕ) → a < length g.marks → is_marked g a ≡ false
       → (is_marked f a ≡ false) × (these a ≡ false)
 
--- a Tick was counted
-pub record CountsEach (states : List ActionState) (f g : Facts) : Type 0 where
-  pub ticks : g.ticks ≡ f.ticks
-  pub each : (a : ℕ) → slice_get g.counts a
-      ≡ option_map (more (is_ready_at states a) f.ticks) (slice_get f.counts a)
-  pub marks : g.marks ≡ f.marks
-
 -- a Tick was counted, and the actions that wait for no more are marked
 pub record IsCounted (states : List ActionState) (f g : Facts) : Type 0 where
   pub ticks : g.ticks ≡ f.ticks

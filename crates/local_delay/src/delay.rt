@@ -27,7 +27,7 @@ pub struct LocalDelay {
 }
 
 impl Model for LocalDelay {
-    ghost use Rattle.std.specs.Prelude.{◌<◌, ◌^◌, length};
+    ghost use Rattle.std.specs.Prelude.{◌≡◌, ◌<◌, ◌^◌, length};
     ghost use Rattle.local_delay.specs.Counts.{Facts};
 
     ghost Value = { Facts };
@@ -38,7 +38,7 @@ impl Model for LocalDelay {
       marks = d.marks.items;
     } };
 
-    ghost invariant = { λ d. (length d.counts.items < 2 ^ 32)
+    ghost invariant = { λ d. (length d.counts.items ≡ length d.marks.items)
         × (length d.marks.items < 2 ^ 32) };
 }
 

@@ -1,8 +1,8 @@
 // The reply to a Tick, its effect on the counts, and the actions that are known to wait.
-ghost use Rattle.std.specs.Prelude.{◌≡◌, nat_le};
+ghost use Rattle.std.specs.Prelude.{◌≡◌};
 ghost use Rattle.exec_journal.specs.Attempts.{begun_in};
 ghost use Rattle.local_delay.specs.Choices.{ReadsDelay, last_of, some_waits, ticked, waits_at};
-ghost use Rattle.local_delay.specs.Counts.{CountsEach, IsCounted, IsMarked, Unmarked, count_at, more};
+ghost use Rattle.local_delay.specs.Counts.{IsCounted, IsMarked, more};
 
 use crate::delay::{LocalDelay, is_dual};
 use core_state::State;
@@ -53,27 +53,11 @@ impl LocalDelay {
     pub(crate) fn count_tick(&mut self, ready: &Ready)
         ensures { IsCounted ready.now self.old self.new }
     {
-        self.count_each(ready);
-        self.mark_counted();
-    }
-
-    fn count_each(&mut self, ready: &Ready)
-        ensures { CountsEach ready.now self.old self.new }
-    {
         for number in 0..self.counts.len() {
             let made = ready.is_ready(number as u32);
-            self.counts[number] = more(made, self.ticks, self.counts[number]);
-        }
-    }
-
-    fn mark_counted(&mut self)
-        ensures ticks { self.new.ticks ≡ self.old.ticks }
-        ensures counts { self.new.counts ≡ self.old.counts }
-        ensures marks { Unmarked self.old self.new
-            (λ a. nat_le self.old.ticks (count_at self.old a)) }
-    {
-        for number in 0..self.marks.len() {
-            if self.count(number as u32) >= self.ticks {
+            let count = more(made, self.ticks, self.counts[number]);
+            self.counts[number] = count;
+            if count >= self.ticks {
                 self.marks[number] = 1;
             }
         }
