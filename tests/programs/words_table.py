@@ -29,14 +29,17 @@ EACH_ONCE = "every option but --strategy and --extra_flag stands once at most, a
 
 # Programs with words that are each accepted, but not together, and the rule that they break.
 BROKEN = [
+    ("worker_tool", "", "there is one list or one --generate, and none is named"),
     ("worker_tool", "--retries=2", "there is one list or one --generate, and none is named"),
     ("worker_tool", "a --retries=2 b", "there is one list or one --generate, and 2 are named"),
     ("worker_tool", "a --generate=1", "there is one list or one --generate, and 2 are named"),
     ("worker_tool", "--retries=1 --extra_flag=a --extra_flag=b --remote=2 --retries=2 l", "--retries stands once at most"),
     ("journal_run", "a b c", "there is one list or one --generate, and 3 are named"),
     ("shared_tool", "--max_workers=2 --retries=1", "there is one list, and none is named"),
+    ("shared_tool", "--max_workers=2", "there is one list, and none is named"),
     ("shared_tool", "l", "there is one --max_workers=N"),
     ("shared_tool", "--max_workers=2 --max_workers=3 l", "there is one --max_workers=N"),
+    ("spawn_tool", "--sandboxed=2", "there is one list, and none is named"),
     ("spawn_tool", "a b --sandboxed=2", "there is one list, and 2 are named"),
     ("spawn_tool", "--worker_verbose l --worker_verbose", "--worker_verbose stands once at most"),
     ("spawn_tool", "--remote=9 --sandboxed=8 l", "--remote and --sandboxed are at most 16 together"),
@@ -77,6 +80,15 @@ def broken(program: str, words: str, rule: str) -> Case:
         compare(words, (2, b"", f"{program}: words are not accepted"), (ended.status, ended.out, fault_line(ended.err)))
         compare(words, f"  {rule}", ended.err.decode().splitlines()[1])
     return Case(f"refused together: {program} {words}", played)
+
+
+def odd_word(program: str) -> Case:
+    """A word that isn't UTF-8, in place of a list. The line after the fault's says so."""
+    def played(programs: Programs, folder: pathlib.Path) -> None:
+        ended = run([getattr(programs, program), b"\xff"], folder)
+        compare("ff", (2, b"", f"{program}: words are not accepted"), (ended.status, ended.out, fault_line(ended.err)))
+        compare("ff", "  a word isn't UTF-8", ended.err.decode().splitlines()[1])
+    return Case(f"not UTF-8: {program}", played)
 
 
 def generated(count: int) -> Case:
@@ -150,6 +162,8 @@ def cases() -> Iterator[Case]:
         yield refused(odd)
     for program, words, rule in BROKEN:
         yield broken(program, words, rule)
+    for program in ["worker_tool", "journal_run", "shared_tool", "spawn_tool"]:
+        yield odd_word(program)
     for count in [1, 7, 40, 1000]:
         yield generated(count)
     yield fault("a list that isn't there", ["gone"], 5, "worker_tool: not there: gone")

@@ -27,7 +27,8 @@ use Rattle.remote_messages.specs.declared.job_result.JobResult.{JobResult}
 use Rattle.remote_branch.specs.Parts.{answer_at, and_more, joined, StandsFor as IsLeftBy}
 use Rattle.remote_branch.specs.declared.parts.Waiting.{Waiting}
 use Rattle.answer_reader.specs.Answers.{of_response, SpellsLine, results_say, ReadsPart}
-use Rattle.answer_reader.specs.Reading.{largest, Reads}
+use Rattle.wire_fields.specs.Message.{largest}
+use Rattle.answer_reader.specs.Reading.{Reads}
 use Rattle.answer_reader.specs.Says.{framing_for, Heard, HeardResults, SaysFirst, SaysAll, SaysBadly, HearsAs, Hears, SaysNext, ReadsAs, ReadsPartAs}
 use Rattle.answer_reader.proofs.Streams.{IsCut, heard_new, whole_new, heard_piece, heard_first, first_more, heard_all, heard_fault, heard_frame, heard_none, after_frame}
 

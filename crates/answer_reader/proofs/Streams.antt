@@ -1,14 +1,14 @@
 -- From what a cutter holds to what was said.
 use Rattle.std.proofs.Common.{◌≡◌, ℕ, List, [], ◌∷◌, ◌++◌, map, Option, Some, None, Result, refl, ap, sym, subst, ◌∙◌}
 use Rattle.std.specs.Prelude.{IfOk, OnOk}
-use Rattle.wire_fields.specs.Message.{AreSpelled}
+use Rattle.wire_fields.specs.Message.{largest, AreSpelled}
 use Rattle.delimited_framing.specs.declared.frame.FrameFault.{FrameFault}
 use Rattle.delimited_framing.specs.Front.{Front, Whole, Unfinished, Bad, Form, FramesOf, FaultOf}
 use Rattle.delimited_framing.specs.Splitter.{Held, StandsFor, fed_more}
 use Rattle.exec_journal.specs.declared.call.Answer.{Answer}
 use Rattle.answer_reader.specs.declared.reader.Spoken.{Spoken}
 use Rattle.answer_reader.specs.declared.reader.Spoken.TheVariants as spoken
-use Rattle.answer_reader.specs.Reading.{largest, SpellsNone, BrokenAt, ReadTo, BeginsWith, IsWhole, IsBroken, Reads}
+use Rattle.answer_reader.specs.Reading.{SpellsNone, BrokenAt, ReadTo, BeginsWith, IsWhole, IsBroken, Reads}
 use Rattle.answer_reader.specs.Says.{Heard}
 
 pub if_ok : {A E : Type 0} (r : Result A E) (P Q : A → Type 0) → ((a : A) → P a → Q a) → IfOk r P → IfOk r Q

@@ -1,14 +1,10 @@
 -- What a stream of frames says, where each frame spells a message and messages join to answers.
 use Rattle.std.specs.Prelude.{◌≡◌, ℕ, List, [], ◌∷◌, ◌++◌, map}
-use Rattle.wire_fields.specs.Message.{AreSpelled}
+use Rattle.wire_fields.specs.Message.{largest, AreSpelled}
 use Rattle.delimited_framing.specs.Front.{Front, Whole, Unfinished, Bad, Form}
 use Rattle.exec_journal.specs.declared.call.Answer.{Answer}
 use Rattle.answer_reader.specs.declared.reader.Spoken.{Spoken}
 use Rattle.answer_reader.specs.declared.reader.Spoken.TheVariants as spoken
-
--- the largest message, in bytes
-abbrev pub largest : ℕ
-largest = 67108864
 
 module _ {M : Type 0} (Spells : List ℕ → M → Type 0) where
   -- the bytes spell no message

@@ -10,7 +10,7 @@ use Rattle.json_framing.specs.declared.cutter.Framing.TheVariants as framing
 use Rattle.exec_journal.specs.declared.call.Answer.{Answer}
 use Rattle.run_plan.specs.declared.plan.Speech.{Speech}
 use Rattle.run_plan.specs.declared.plan.Speech.TheVariants as speech
-use Rattle.wire_fields.specs.Message.{AreSpelled}
+use Rattle.wire_fields.specs.Message.{largest, AreSpelled}
 use Rattle.wire_messages.specs.Response.{SpellsResponse}
 use Rattle.remote_messages.specs.JobResult.{SpellsJobResult}
 use Rattle.remote_messages.specs.declared.job_result.JobResult.{JobResult}
@@ -20,7 +20,7 @@ use Rattle.answer_reader.specs.declared.reader.AnswerReader.{AnswerReader}
 use Rattle.answer_reader.specs.declared.reader.Spoken.{Spoken}
 use Rattle.answer_reader.specs.declared.reader.Spoken.TheVariants as spoken
 use Rattle.answer_reader.specs.Answers.{of_response, SpellsLine, results_say, ReadsResult}
-use Rattle.answer_reader.specs.Reading.{largest, BeginsWith, IsWhole, IsBroken, Reads}
+use Rattle.answer_reader.specs.Reading.{BeginsWith, IsWhole, IsBroken, Reads}
 
 abbrev pub framing_for : Speech → Framing
 framing_for speech.Proto = framing.Delimited

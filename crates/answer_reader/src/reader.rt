@@ -12,9 +12,7 @@ use plain_values::NoMemory;
 use remote_branch::Parts;
 use run_plan::Speech;
 use std::alloc::Global;
-
-/// The largest message, in bytes.
-const LARGEST: u64 = 67_108_864;
+use wire_fields::LARGEST;
 
 /// The next result of a reader.
 #[derive(Drop)]

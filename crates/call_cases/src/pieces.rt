@@ -4,9 +4,7 @@ use file_digests::digest_of;
 use json_framing::{Cutter, Framing};
 use plain_values::NoMemory;
 use std::alloc::Global;
-
-/// The limit for the bytes of a frame, as for messages.
-pub const LARGEST: u64 = 67_108_864;
+use wire_fields::LARGEST;
 
 /// The length of a piece if a case doesn't give it.
 const SMALLEST: usize = 1;

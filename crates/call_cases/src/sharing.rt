@@ -3,7 +3,6 @@ ghost use Rattle.std.specs.Prelude.{◌≡◌, length, IfOk};
 
 use crate::jobs::SlowInput;
 use crate::messages::bytes_of;
-use crate::pieces::LARGEST;
 use delimited_framing::Next;
 use demo_programs::{DemoLane, DemoLeft, DemoSite, demo};
 use json_framing::{Cutter, Framing};
@@ -14,6 +13,7 @@ use std::alloc::Global;
 use std::sync::Wait;
 use std::sync::atomic::AtomicBool;
 use std::thread::Threads;
+use wire_fields::LARGEST;
 
 /// Runs the worker over these requests, on four lanes whose shops have the file `a` with the text `one`.
 /// Returns its status, its responses, and the content of `o` in the shop of the lane that wrote it. The

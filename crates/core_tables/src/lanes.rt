@@ -5,7 +5,6 @@ ghost use Rattle.run_plan.specs.declared.plan.Plan.{Plan};
 ghost use Rattle.exec_journal.specs.declared.call.Call.TheVariants.{Ask, Take};
 ghost use Rattle.std.specs.List.{list_any};
 ghost use Rattle.exec_journal.specs.Scripts.{is_made, outputs_of, makes, may_find, is_gathered, is_exit, is_refusal, is_whole_or_fault};
-ghost use Rattle.exec_journal.specs.Entries.{attempt_of};
 ghost use Rattle.run_plan.specs.Groups.{is_remote};
 ghost use Rattle.core_tables.specs.Lanes.{no_work, allows_by, may_by, allowed_by, order_after, said_after, worked, noted, owes_commit_by, is_owed_by, may_ask_by, may_take_by, hears_by, may_look_by};
 
@@ -386,7 +385,7 @@ fn order_after(reply: &Reply) -> Owed
             attempt,
         } => Owed::Launch {
             line: *line,
-            attempt: attempt_of(*action, *branch, *attempt),
+            attempt: Attempt::of(*action, *branch, *attempt),
         },
         Reply::Send {
             line,
@@ -397,7 +396,7 @@ fn order_after(reply: &Reply) -> Owed
         } => Owed::Send {
             line: *line,
             number: *number,
-            attempt: attempt_of(*action, *branch, *attempt),
+            attempt: Attempt::of(*action, *branch, *attempt),
         },
         Reply::Cancel { line, number } => Owed::Cancel {
             line: *line,
@@ -414,7 +413,7 @@ fn order_after(reply: &Reply) -> Owed
         } => Owed::Gather {
             line: *line,
             number: *number,
-            attempt: attempt_of(*action, *branch, *attempt),
+            attempt: Attempt::of(*action, *branch, *attempt),
             exit: *exit,
             refused: *refused,
         },
@@ -443,15 +442,5 @@ fn said_after(call: &Call, reply: &Reply) -> Said
         },
         Call::Answer { line, .. } => Said::Answer { line: *line },
         _ => Said::Nothing,
-    }
-}
-
-fn attempt_of(action: u32, branch: Branch, number: u32) -> Attempt
-    ensures { result ≡ attempt_of action branch number }
-{
-    Attempt {
-        action,
-        branch,
-        number,
     }
 }

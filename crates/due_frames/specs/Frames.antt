@@ -2,6 +2,7 @@
 use Rattle.std.specs.Prelude.{ℕ, ℤ, List, [], ◌∷◌, ◌++◌, length, ltb, if◌then◌else◌}
 use Rattle.run_plan.specs.declared.plan.Speech.{Speech}
 use Rattle.run_plan.specs.declared.plan.Speech.TheVariants as speech
+use Rattle.wire_fields.specs.Message.{largest}
 use Rattle.wire_fields.specs.Spelling.{delimited}
 use Rattle.wire_messages.specs.Request.{request_spelling}
 use Rattle.json_messages.specs.Writing.{request_text}
@@ -24,10 +25,6 @@ request_line request = request_text request ++ 10 ∷ []
 -- a job behind its length
 abbrev pub framed_job : Job → List ℕ
 framed_job job = delimited (job_spelling job)
-
--- the longest message that is written
-abbrev pub largest : ℕ
-largest = 67108864
 
 -- a job that is longer is not written
 abbrev pub due_job : Job → Due

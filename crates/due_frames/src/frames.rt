@@ -12,10 +12,8 @@ use remote_messages::job_length;
 use run_plan::Speech;
 use sandbox_rooms::Room;
 use std::alloc::Global;
+use wire_fields::LARGEST;
 use wire_messages::encode_delimited;
-
-/// The size of the longest message that is written, in bytes.
-const LARGEST: u64 = 67_108_864;
 
 /// The data to write for a Send.
 #[derive(Drop)]

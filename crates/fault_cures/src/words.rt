@@ -8,7 +8,7 @@ use std::alloc::Global;
 use tool_words::read_words;
 
 /// Returns the lines that follow words that aren't accepted: one for each word that isn't accepted by itself. If each
-/// word is, the line is the rule for all of them together. There are no lines if there are no words.
+/// word is, the line is the rule for all of them together.
 ///
 /// # Errors
 ///
@@ -17,7 +17,7 @@ pub fn word_lines(alloc: Global, words: &[String], together: &str) -> Result<Str
     ensures { IfOk result (λ lines. AreBehind (string_bytes lines)) }
 {
     let mut page = Page::new(alloc);
-    let mut is_told = words.is_empty();
+    let mut is_told = false;
     for word in words {
         let word = word.as_str();
         if !is_accepted(alloc, word)? {

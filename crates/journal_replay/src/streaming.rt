@@ -8,13 +8,11 @@ ghost use Rattle.journal_replay.specs.declared.streaming.Broke.TheVariants as br
 use crate::feeding::Auditor;
 use crate::replayed::Replayed;
 use crate::verdict::Verdict;
-use outside::{Io, Sink, Taken, Tap};
+use outside::{Io, PIECE, Sink, Taken, Tap};
 use plain_values::NoMemory;
 use std::alloc::Global;
 
 const LIMIT: usize = 268_435_456;
-
-const PIECE: usize = 65_536;
 
 // After this many reads of a byte or more the text is too long.
 const MOST_READS: usize = LIMIT + 1;

@@ -2,7 +2,7 @@
 use Rattle.std.proofs.Common.{◌≡◌, ℕ, List, [], ◌∷◌, ◌++◌, Option, None, refl, ap, sym, subst, ◌∙◌}
 use Rattle.std.specs.Global.{Vec}
 use Rattle.wire_fields.specs.Varint.{number_at, varint_at}
-use Rattle.wire_fields.specs.Message.{AreSpelled}
+use Rattle.wire_fields.specs.Message.{largest, AreSpelled}
 use Rattle.delimited_framing.specs.declared.frame.FrameFault.{FrameFault}
 use Rattle.delimited_framing.specs.declared.frame.Next.{Next}
 use Rattle.delimited_framing.specs.declared.frame.Next.TheVariants as next
@@ -16,7 +16,7 @@ use Rattle.json_framing.specs.declared.cutter.Framing.{Framing}
 use Rattle.json_framing.specs.declared.cutter.Framing.TheVariants as framing
 use Rattle.json_framing.proofs.Streams.{Holds-more as lines_more}
 use Rattle.json_framing.proofs.Laws.{last_line}
-use Rattle.message_service.specs.Stream.{largest, SpellsNone, BrokenAt, Begins, IsWhole, IsBroken}
+use Rattle.message_service.specs.Stream.{SpellsNone, BrokenAt, Begins, IsWhole, IsBroken}
 use Rattle.message_service.specs.Stream.{Heard}
 
 spelled_more : {M : Type 0} (Spells : List ℕ → M → Type 0) (frames : List (List ℕ))

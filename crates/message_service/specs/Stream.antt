@@ -1,12 +1,8 @@
 -- What bytes say that are frames, each of which spells a message.
 use Rattle.std.specs.Prelude.{◌≡◌, ℕ, List, Bool, true, false, Option, Some, None}
-use Rattle.wire_fields.specs.Message.{AreSpelled}
+use Rattle.wire_fields.specs.Message.{largest, AreSpelled}
 use Rattle.delimited_framing.specs.Front.{Front, Whole, Unfinished, Bad, Form}
 use Rattle.delimited_framing.specs.Splitter.{Held, StandsFor}
-
--- the largest message, in bytes
-abbrev pub largest : ℕ
-largest = 67108864
 
 module _ {M : Type 0} (Spells : List ℕ → M → Type 0) where
   abbrev pub SpellsNone : List ℕ → Type 0

@@ -10,19 +10,11 @@ use crate::answering::answer_all;
 use crate::hearing::{Come, hear_piece};
 use crate::{Finish, Service};
 use json_framing::Cutter;
-use outside::{Shop, Sink, Taken, Tap};
+use outside::{PIECE, READS, Shop, Sink, Taken, Tap};
 use plain_values::NoMemory;
 use std::alloc::Global;
 use std::sync::Wait;
-
-/// The limit for the bytes of one message.
-const LARGEST: u64 = 67_108_864;
-
-/// The limit for the bytes of one read.
-const PIECE: usize = 65_536;
-
-/// The limit for the number of reads. Each takes at least one byte.
-const READS: u64 = 1 << 40;
+use wire_fields::LARGEST;
 
 /// Reads the available input, answers its messages one after another, and reads on. It stops at the end of
 /// the input or at bytes that spell no message.

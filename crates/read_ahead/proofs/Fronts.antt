@@ -1,7 +1,7 @@
 -- From the messages that bytes spell to the first of them.
 use Rattle.std.proofs.Common.{◌≡◌, ℕ, List, [], ◌∷◌, ◌++◌, refl, ap, sym, subst, append_assoc}
 use Rattle.std.proofs.Common.{append-nil}
-use Rattle.wire_fields.specs.Message.{AreSpelled}
+use Rattle.wire_fields.specs.Message.{largest, AreSpelled}
 use Rattle.delimited_framing.specs.Frame.{Holds}
 use Rattle.json_framing.specs.Cutter.{form_of}
 use Rattle.json_framing.specs.declared.cutter.Framing.{Framing}
@@ -9,7 +9,7 @@ use Rattle.json_framing.specs.declared.cutter.Framing.TheVariants as framing
 use Rattle.json_framing.proofs.Laws.{last_line}
 use Rattle.message_service.specs.declared.finish.Finish.{Finish}
 use Rattle.message_service.specs.declared.finish.Finish.TheVariants as finish
-use Rattle.message_service.specs.Stream.{largest, Begins}
+use Rattle.message_service.specs.Stream.{Begins}
 use Rattle.message_service.specs.Serves.{ReadsBy}
 use Rattle.read_ahead.specs.declared.reading.Pause.{Pause}
 use Rattle.read_ahead.specs.declared.reading.Pause.TheVariants as pause

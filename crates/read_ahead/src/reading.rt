@@ -12,19 +12,11 @@ use json_framing::Cutter;
 use lane_crew::Caller;
 use message_box::{Mailbox, Offered, READER, Stop, await_room, put};
 use message_service::{Service, hear_piece};
-use outside::{Shop, Taken, Tap};
+use outside::{PIECE, READS, Shop, Taken, Tap};
 use plain_values::NoMemory;
 use std::alloc::Global;
 use std::sync::Wait;
-
-/// The limit for the bytes of one message.
-const LARGEST: u64 = 67_108_864;
-
-/// The limit for the bytes of one read.
-const PIECE: usize = 65_536;
-
-/// The limit for the number of reads. Each takes at least one byte.
-const READS: u64 = 1 << 40;
+use wire_fields::LARGEST;
 
 /// The reason why no more is read.
 #[derive(Clone, Copy, PartialEq, Eq)]

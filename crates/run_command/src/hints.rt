@@ -90,19 +90,8 @@ pub fn lines(
 ) -> Result<String, NoMemory> {
     match (cause.fault, cause.last_error) {
         (RunFault::Words, _) => {
-            let mut lines = match words.iter().find(|word| word.starts_with("--generate=")) {
-                Some(word) if !program.generates => {
-                    format!(in alloc; "  this word isn't accepted: {:?}\n", word.as_str())?
-                }
-                _ => {
-                    let rule = broken_rule(alloc, program, words)?;
-                    word_lines(alloc, words, rule.as_str())?
-                }
-            };
-            let name = program.name;
-            lines.push_str(format!(in alloc; "  usage: {name} [OPTION].. LIST\n")?.as_str())?;
-            lines.push_str(program.options)?;
-            Ok(lines)
+            let lines = broken_lines(alloc, program, words)?;
+            with_usage(alloc, program, lines)
         }
         // The cures report what the action lacks, since they name the requirement.
         (RunFault::List(ListFault::NoStrategy { .. }), _) => Ok(String::new(alloc)),
@@ -111,6 +100,41 @@ pub fn lines(
         (RunFault::NoMemory(stage), _) => stage_lines(alloc, program.prints, cause, *stage),
         _ => Ok(String::new(alloc)),
     }
+}
+
+/// Returns the lines about words of which one isn't UTF-8.
+///
+/// # Errors
+///
+/// Returns `NoMemory` if memory runs out.
+pub fn unread_lines(alloc: Global, program: &Program) -> Result<String, NoMemory> {
+    let line = String::from_str(alloc, "  a word isn't UTF-8\n")?;
+    with_usage(alloc, program, line)
+}
+
+// Returns the lines about words that aren't accepted, alone or together.
+fn broken_lines(
+    alloc: Global,
+    program: &Program,
+    words: &[String],
+) -> Result<String, NoMemory> {
+    let made = words.iter().find(|word| word.starts_with("--generate="));
+    if let Some(word) = made
+        && !program.generates
+    {
+        return Ok(format!(in alloc; "  this word isn't accepted: {:?}\n", word.as_str())?);
+    }
+    let rule = broken_rule(alloc, program, words)?;
+    word_lines(alloc, words, rule.as_str())
+}
+
+// Returns these lines with the program's usage behind them.
+fn with_usage(alloc: Global, program: &Program, lines: String) -> Result<String, NoMemory> {
+    let mut lines = lines;
+    let name = program.name;
+    lines.push_str(format!(in alloc; "  usage: {name} [OPTION].. LIST\n")?.as_str())?;
+    lines.push_str(program.options)?;
+    Ok(lines)
 }
 
 // Returns the lines that tell what is left of a run that lacked memory or threads in this stage.

@@ -40,11 +40,14 @@ pub fn words(rt: &(impl Env + AllocGlobal), alloc: Global) -> io::Result<Vec<Str
 pub fn end_unread(rt: &impl Eprint, alloc: Global, program: &Program, error: &io::Error) -> ExitCode
     ensures { (exit_status result ≡ 2) ⊎ (exit_status result ≡ 3) }
 {
-    let fault = match error.kind() {
-        ErrorKind::OutOfMemory => RunFault::NoMemory(Stage::Before),
-        _ => RunFault::Words,
-    };
-    end(rt, alloc, program, &fault)
+    if error.kind() == ErrorKind::OutOfMemory {
+        return end(rt, alloc, program, &RunFault::NoMemory(Stage::Before));
+    }
+    tell_fault(rt, alloc, program, &RunFault::Words);
+    if let Ok(lines) = hints::unread_lines(alloc, program) {
+        let _ = rt.eprint(lines.as_str());
+    }
+    ExitCode::from(RunFault::Words.status())
 }
 
 /// Reports the fault of a run that was not begun, and returns its status.
@@ -63,14 +66,19 @@ pub fn tell(
     words: &[String],
     cause: &Cause<'_, '_>,
 ) {
-    if let Ok(line) = fault_line(alloc, cause.fault) {
+    tell_fault(rt, alloc, program, cause.fault);
+    if let Ok(lines) = hints::lines(alloc, program, words, cause) {
+        let _ = rt.eprint(lines.as_str());
+    }
+}
+
+// Prints the fault's line, in this program's name.
+fn tell_fault(rt: &impl Eprint, alloc: Global, program: &Program, fault: &RunFault) {
+    if let Ok(line) = fault_line(alloc, fault) {
         let line = line.as_str();
         let _ = rt.eprint(program.name);
         let _ = rt.eprint(line.strip_prefix(NAMED).unwrap_or(line));
         let _ = rt.eprint("\n");
-    }
-    if let Ok(lines) = hints::lines(alloc, program, words, cause) {
-        let _ = rt.eprint(lines.as_str());
     }
 }
 

@@ -16,15 +16,9 @@ use answer_reader::{AnswerReader, Spoken};
 use core_bench::Bench;
 use core_contract::Rules;
 use exec_journal::HowEnded;
-use outside::{Berth, Place, Taken, Tap};
+use outside::{Berth, PIECE, Place, READS, Taken, Tap};
 use plain_values::NoMemory;
 use std::sync::Wait;
-
-/// The most bytes of one read.
-const PIECE: usize = 65_536;
-
-/// The most reads of one tap, each of which takes at least one byte.
-const READS: u64 = 1 << 40;
 
 impl<'a, B: Berth, P: Place, C: Rules> TapLane<'a, Bench<B, P, C>> {
     /// Reads a line to its end: reports each answer, and how the line has ended.

@@ -5,7 +5,7 @@ use Rattle.std.specs.List.{filter}
 use Rattle.std.proofs.lemmas.Bool.{ltb-true, ltb-false}
 use Rattle.std.proofs.lemmas.List.{length-append, length-drop}
 use Rattle.wire_fields.specs.Varint.{Fault, CutField, BadVarint, BadTag, BadText, below, number_at, varint_at}
-use Rattle.wire_fields.specs.Message.{AreSpelled}
+use Rattle.wire_fields.specs.Message.{largest, AreSpelled}
 use Rattle.delimited_framing.specs.declared.frame.FrameFault.{FrameFault}
 use Rattle.delimited_framing.specs.declared.frame.FrameFault.TheVariants.{TooLong}
 use Rattle.delimited_framing.specs.Front.{Front, Whole, Unfinished, Bad, HoldsBy, IsMarked}
@@ -18,7 +18,7 @@ use Rattle.json_framing.specs.declared.cutter.Framing.TheVariants as framing
 use Rattle.json_framing.proofs.Streams.{unfinished_length, length_more, lines_marked}
 use Rattle.delimited_framing.specs.Splitter.{Held}
 use Rattle.message_service.specs.declared.finish.Finish.{Finish}
-use Rattle.message_service.specs.Stream.{largest, Begins, IsWhole}
+use Rattle.message_service.specs.Stream.{Begins, IsWhole}
 use Rattle.work_queue.specs.States.{Read}
 use Rattle.work_lanes.specs.Calls.{HasRoom, HearsMore}
 use Rattle.work_lanes.specs.Reading.{HandsOn}

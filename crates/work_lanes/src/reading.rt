@@ -16,22 +16,14 @@ use json_framing::Cutter;
 use lane_bells::Bells;
 use lane_crew::{Caller, Lane};
 use message_service::Finish;
-use outside::{Sink, Taken, Tap};
+use outside::{PIECE, READS, Sink, Taken, Tap};
 use plain_values::NoMemory;
 use seat_desk::{Desk, Pass};
 use std::alloc::Global;
 use std::sync::Wait;
 use std::thread::Threads;
+use wire_fields::LARGEST;
 use work_queue::{READER, WorkQueue};
-
-/// The largest message, in bytes.
-const LARGEST: u64 = 67_108_864;
-
-/// The most bytes of one read.
-const PIECE: usize = 65_536;
-
-/// The most reads, each of which takes at least one byte.
-const READS: u64 = 1 << 40;
 
 /// The lane that reads requests.
 #[derive(Drop)]
