@@ -20,20 +20,21 @@ use Rattle.core_contract.specs.Duties.{Asks, duty_of}
 use Rattle.proxy_deeds.specs.declared.halt.ProxyHalt.{ProxyHalt}
 use Rattle.proxy_deeds.specs.declared.halt.ProxyHalt.TheVariants as cause
 use Rattle.proxy_deeds.specs.Settings.{FitsSettings}
-use Rattle.run_values.specs.Settings.{Means}
+use Rattle.run_values.specs.Settings.{HasGroup, Means}
 use Rattle.proxy_calls.specs.Calls.{MakesNone, MakesOne, Stays}
 use Rattle.proxy_calls.specs.Reports.{Told}
 use Rattle.proxy_calls.specs.declared.asking.Order.{Order}
-use Rattle.outside.specs.Told.{ChildTold}
+use Rattle.outside.specs.Told.{BerthTold, ChildTold, FeedTold}
 use Rattle.run_values.specs.Work.{IsWork, IsWorkOf}
-use Rattle.proxy_steps.specs.Lanes.{LaneObjects}
-use Rattle.proxy_steps.specs.Steps.{IsShelved, IsLaidBy, Goes, Halts, TellsWrote, IsCauseOf}
+use Rattle.proxy_steps.specs.Lanes.{LaneObjects, Open, open_line}
+use Rattle.proxy_steps.specs.Steps.{open_in, IsShelved, IsLaidBy, Goes, Halts, TellsWrote, IsCauseOf}
 use Rattle.proxy_steps.proofs.Sends.{starts_later}
 use Rattle.proxy_steps.proofs.Serving.{proxy_on, by_rules}
+use Rattle.proxy_lane.specs.Held.{ByOpenLine, IsOpen, with_berth}
 use Rattle.proxy_lane.specs.declared.site.Site.{Site}
 use Rattle.proxy_lane.specs.declared.site.Request.{Request}
 use Rattle.proxy_lane.specs.declared.lane.ProxyLane.{ProxyLane}
-use Rattle.proxy_lane.specs.Sites.{IsSite, IsDue, IsOrdered, IsWorkAt, Obeyed, Obeys, ReportsWrote}
+use Rattle.proxy_lane.specs.Sites.{means_at, IsSite, IsDue, IsOrdered, IsSameLane, IsWorkAt, Obeyed, Obeys, ReportsWrote, StaysHere}
 
 -- ---- after a call
 
@@ -68,21 +69,48 @@ module _ {M G Q R : Type 0} {g : Ghosts M Call Reply G Q} (rules : Q → Discipl
     work = by_rules (λ q. IsWorkOf (rules q).plan site.actions.now) p p' same x.work;
   }
 
+module _ {M B R G Q D T K : Type 0} {g : Ghosts M Call Reply G Q} (rules : Q → Discipline)
+    (x x' : ProxyLane M B R Call Reply G Q D T K g) where
+  -- what holds of its site holds of it later
+  pub site_at : IsSameLane x x' → IsSite rules x.site x.caller.pass → IsSite rules x'.site x'.caller.pass
+  site_at same at = subst (λ (s : Site R). IsSite rules s x'.caller.pass) (sym same.site)
+      (site_on rules x.site x.caller.pass x'.caller.pass same.pass at)
+
+  -- also where it made no entry
+  pub now_at_site : StaysHere x x' → IsSite rules x.site x.caller.pass → IsSite rules x'.site x'.caller.pass
+  now_at_site here at = site_at (record { pass = here.stays.same; site = here.site }) at
+
   -- so does what holds of an action's work
-  pub work_on : (a : ℕ) (work : WorkAction) → IsSamePass p p' → IsWorkAt rules site p a work
-      → IsWorkAt rules site p' a work
-  work_on a work same x = by_rules (λ q. IsWork (outputs_in (rules q).plan a) (makers_in (rules q).plan a) work)
-      p p' same x
+  pub work_on : (a : ℕ) (work : WorkAction) → IsSamePass x.caller.pass x'.caller.pass
+      → IsWorkAt rules x a work → IsWorkAt rules x' a work
+  work_on a work same is = by_rules
+      (λ q. IsWork (outputs_in (rules q).plan a) (makers_in (rules q).plan a) work)
+      x.caller.pass x'.caller.pass same is
 
   -- and of a request that is due
-  pub due_on : (request : Request) → Stays p p' → IsDue rules site p request
-      → IsDue rules site p' request
-  due_on request stays x = record {
-    at_site = site_on stays.same x.at_site;
-    owes = ap duty_of stays.none.1 ∙ x.owes;
-    group = x.group;
-    of_action = work_on request.attempt.action request.work.now stays.same x.of_action;
+  pub due_on : (request : Request) → StaysHere x x' → IsDue rules x request → IsDue rules x' request
+  due_on request here due = record {
+    at_site = now_at_site here due.at_site;
+    owes = ap duty_of here.stays.none.1 ∙ due.owes;
+    group = subst (λ (s : Site R). HasGroup s.settings.now request.attempt) (sym here.site) due.group;
+    of_action = work_on request.attempt.action request.work.now here.stays.same due.of_action;
   }
+
+module _ {M B R G Q D T K : Type 0} {g : Ghosts M Call Reply G Q} where
+  pub stays_here : (x : ProxyLane M B R Call Reply G Q D T K g) → StaysHere x x
+  stays_here x = record { stays = stays_at x.caller.pass; site = refl }
+
+  pub here_on : (x x1 x2 : ProxyLane M B R Call Reply G Q D T K g) → StaysHere x x1 → StaysHere x1 x2
+      → StaysHere x x2
+  here_on x x1 x2 a b = record {
+    stays = stays_on x.caller.pass x1.caller.pass x2.caller.pass a.stays b.stays;
+    site = b.site ∙ a.site;
+  }
+
+  -- where the pass stays, and the site with it
+  pub looked_on : (x x1 x2 : ProxyLane M B R Call Reply G Q D T K g) → StaysHere x x1
+      → Stays x1.caller.pass x2.caller.pass → x2.site ≡ x1.site → StaysHere x x2
+  looked_on x x1 x2 a stays site = here_on x x1 x2 a (record { stays = stays; site = site })
 
 -- the work of an action is asked by what the plan says of the action
 pub work_at : (p : Plan) (works : List WorkAction) (a : ℕ) (work : WorkAction) → IsWorkOf p works
@@ -107,23 +135,61 @@ pub still_tidy : {M G Q : Type 0} {g : Ghosts M Call Reply G Q} (w : ℕ)
     → line' ≡ line → IsShelved w p line → child_at w (mine p') ≡ line'
 still_tidy w p p' line line' child same shelved = child ∙ (shelved ∙ sym same)
 
+-- hands that are the same are so but for the berth
+pub same_hands : {h h' : LaneObjects} → h' ≡ h → h' ≡ with_berth h'.berth h
+same_hands {h} {h'} is = is ∙ ap (λ (y : LaneObjects). with_berth y.berth h) (sym is)
+
+-- ---- the open line
+
+-- the line that is open is open
+pub is_open : (h : LaneObjects) (l : ℕ) → open_in h ≡ Some l → IsOpen h
+is_open h l is = by h.opened is
+  where
+    by : (o : Option Open) → open_line o ≡ Some l → (x : Open) × (o ≡ Some x)
+    by (Some x) e = (x, refl)
+    by None e = absurd (cc)
+
+-- and has its number
+pub open_is : (h : LaneObjects) (o : Open) (l : ℕ) → open_in h ≡ Some l → h.opened ≡ Some o → o.line ≡ l
+open_is h o l is was = let e : Some o.line ≡ Some l = sym (ap open_line was) ∙ is in cc
+
+-- what was done is said of the hands as they were
+pub by_line_at : (F : BerthTold → BerthTold → FeedTold → FeedTold → Type 0) (h0 h : LaneObjects)
+    {h' : LaneObjects} → h0 ≡ h → ByOpenLine F h0 h' → ByOpenLine F h h'
+by_line_at F h0 h {h'} is x = subst (λ (y : LaneObjects). ByOpenLine F y h') is x
+
+-- where nothing was done, and nothing has changed
+pub by_no_line : (F : BerthTold → BerthTold → FeedTold → FeedTold → Type 0) (h h' : LaneObjects)
+    → IsOpen h → h' ≡ h → ((f : FeedTold) → F h.berth h.berth f f) → ByOpenLine F h h'
+by_no_line F h h' o is done = subst (λ (y : LaneObjects). ByOpenLine F h y) (sym is) (record {
+  was_open = o.0;
+  feed = o.0.feed;
+  was = o.1;
+  is = ap (λ (x : Option Open). record h { opened = x }) o.1;
+  done = done o.0.feed;
+})
+
 -- ---- by a report
 
 -- what was told of a Wrote
-pub reports_wrote : {M G Q A : Type 0} {g : Ghosts M Call Reply G Q} (l : ℕ) (n : ℤ)
+pub reports_wrote : {M B R G Q D T K A : Type 0} {g : Ghosts M Call Reply G Q} (l : ℕ) (n : ℤ)
     (how : Written) (wrote : Result Written NoMemory) (r : Result A ProxyHalt)
-    (p p' : Pass M Call Reply G Q g) → wrote ≡ Ok how → IsSamePass p p'
-    → Told (call.Wrote l n how) r p p' → ReportsWrote r p p' l n wrote
-reports_wrote {M} {G} {Q} {A} {g} l n how wrote r p p' is same told =
-    subst (λ (w : Result Written NoMemory). ReportsWrote r p p' l n w) (sym is) (record {
+    (x x' : ProxyLane M B R Call Reply G Q D T K g) → wrote ≡ Ok how → IsSameLane x x'
+    → x'.hands ≡ x.hands → Told (call.Wrote l n how) r x.caller.pass x'.caller.pass
+    → ReportsWrote r x x' l n wrote
+reports_wrote {M} {B} {R} {G} {Q} {D} {T} {K} {A} {g} l n how wrote r x x' is same hands told =
+    let p = x.caller.pass in
+    let p' = x'.caller.pass in
+    subst (λ (w : Result Written NoMemory). ReportsWrote r x x' l n w) (sym is) (record {
       same = same;
-      told = elim r as (λ (x : Result A ProxyHalt). Told (call.Wrote l n how) x p p'
-          → OnOk x ((duty_of (mine p') ≡ Asks) × TellsWrote l n (Ok how) p p')) [
+      hands = hands;
+      told = elim r as (λ (y : Result A ProxyHalt). Told (call.Wrote l n how) y p p'
+          → OnOk y ((duty_of (mine p') ≡ Asks) × TellsWrote l n (Ok how) p p')) [
             | Ok u ↦ λ t. (t.1, t.0)
             | Err by ↦ λ t. tt
           ] told;
-      refused = elim r as (λ (x : Result A ProxyHalt). Told (call.Wrote l n how) x p p'
-          → IfErr x (λ by. MakesNone p p' × IsCauseOf l n (Ok how) by)) [
+      refused = elim r as (λ (y : Result A ProxyHalt). Told (call.Wrote l n how) y p p'
+          → IfErr y (λ by. MakesNone p p' × IsCauseOf l n (Ok how) by)) [
             | Ok u ↦ λ t. tt
             | Err by ↦ λ t. (t.1, t.0)
           ] told;
@@ -183,3 +249,16 @@ module _ {M B R G Q D T K : Type 0} {g : Ghosts M Call Reply G Q} (rules : Q →
       {x' : ProxyLane M B R Call Reply G Q D T K g} → x0 ≡ x → Obeys rules r x0 x' → Obeys rules r x x'
   obeys_at r x0 x {x'} is y =
       subst (λ (z : ProxyLane M B R Call Reply G Q D T K g). Obeys rules r z x') is y
+
+  -- what an order leaves, where the lane has its site and these things in its hands
+  pub obeys_with : {A : Type 0} (r : Result A ProxyHalt) (x x' : ProxyLane M B R Call Reply G Q D T K g)
+      (h' : LaneObjects) → IsSameLane x x' → x'.hands ≡ h'
+      → child_at x.site.berth (mine x'.caller.pass) ≡ open_in h'
+      → Obeyed (means_at x.site) rules r x.caller.pass x.hands x'.caller.pass h' → Obeys rules r x x'
+  obeys_with r x x' h' same is tidy goes = record {
+    same = same;
+    tidy = subst (λ (s : Site R). child_at s.berth (mine x'.caller.pass) ≡ open_in x'.hands) (sym same.site)
+        (tidy ∙ sym (ap open_in is));
+    goes = subst (λ (y : LaneObjects). Obeyed (means_at x.site) rules r x.caller.pass x.hands
+        x'.caller.pass y) (sym is) goes;
+  }

@@ -4,7 +4,7 @@ use Rattle.std.specs.Global.{Vec}
 use Rattle.outside.specs.Told.{BerthTold, FeedTold, ChildTold}
 use Rattle.proxy_steps.specs.declared.hands.EndedFeed.{EndedFeed}
 use Rattle.proxy_steps.specs.declared.hands.OpenFeed.{OpenFeed}
-use Rattle.proxy_steps.specs.Lanes.{LaneObjects, open_of, back_of}
+use Rattle.proxy_steps.specs.Lanes.{LaneObjects, Open, open_of, back_of}
 
 abbrev pub held_of : {B D K : Type 0} → (B → BerthTold) → (D → FeedTold) → (K → ChildTold)
     → B → Option (OpenFeed D) → Vec (EndedFeed D K) → Option (EndedFeed D K) → LaneObjects
@@ -23,3 +23,24 @@ first_held b = record { berth = b; opened = None; ended = []; unsaid = None }
 abbrev pub HasRoom : {D K : Type 0} → Option (OpenFeed D) → Vec (EndedFeed D K) → Type 0
 HasRoom line ended =
     (l : ℕ) → option_map (λ x. x.line) line ≡ Some l → vec_len ended < vec_capacity ended
+
+-- a line is open
+abbrev pub IsOpen : LaneObjects → Type 0
+IsOpen h = (o : Open) × (h.opened ≡ Some o)
+
+-- the same, but for what the berth tells
+abbrev pub with_berth : BerthTold → LaneObjects → LaneObjects
+with_berth b h = record h { berth = b }
+
+-- the same, but for what the berth tells, and the feed of this open line
+abbrev pub with_feed : BerthTold → Open → FeedTold → LaneObjects → LaneObjects
+with_feed b o f h = record h { berth = b; opened = Some (record { line = o.line; feed = f }) }
+
+-- So was it done by the berth and by the feed of the open line. All else is as it was.
+pub record ByOpenLine (Done : BerthTold → BerthTold → FeedTold → FeedTold → Type 0)
+    (h h' : LaneObjects) : Type 0 where
+  pub was_open : Open
+  pub feed : FeedTold
+  pub was : h.opened ≡ Some was_open
+  pub is : h' ≡ with_feed h'.berth was_open feed h
+  pub done : Done h.berth h'.berth was_open.feed feed

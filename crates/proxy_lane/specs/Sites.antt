@@ -12,8 +12,8 @@ use Rattle.exec_journal.specs.declared.call.Written.{Written}
 use Rattle.exec_journal.specs.declared.reply.Reply.{Reply}
 use Rattle.exec_journal.specs.declared.reply.Reply.TheVariants as reply
 use Rattle.remote_messages.specs.declared.work.WorkAction.{WorkAction}
-use Rattle.core_contract.specs.Discipline.{Discipline}
 use Rattle.core_contract.specs.Ruled.{answer_after}
+use Rattle.core_contract.specs.Moves.{History}
 use Rattle.core_contract.specs.Discipline.{Discipline, makers_in, outputs_in}
 use Rattle.core_contract.specs.Duties.{Duty, Asks, Sends, duty_of}
 use Rattle.proxy_deeds.specs.declared.halt.ProxyHalt.{ProxyHalt}
@@ -22,14 +22,16 @@ use Rattle.run_values.specs.Settings.{HasGroup, Means}
 use Rattle.proxy_deeds.specs.Deeds.{Looked}
 use Rattle.proxy_deeds.specs.Ends.{may_halt}
 use Rattle.proxy_deeds.specs.Told.{AreTold}
-use Rattle.outside.specs.Told.{BerthTold, ChildTold, FeedTold}
+use Rattle.outside.specs.Told.{ChildTold}
 use Rattle.proxy_calls.specs.declared.asking.Answered.{Answered}
 use Rattle.proxy_calls.specs.declared.asking.Order.{Order}
-use Rattle.proxy_calls.specs.Calls.{IsProxyOf, MakesNone, MakesOne}
+use Rattle.proxy_calls.specs.Calls.{IsProxyOf, MakesNone, MakesOne, Stays}
 use Rattle.run_values.specs.Work.{IsWork, IsWorkOf}
 use Rattle.proxy_steps.specs.Acts.{GatherActs, IsAnswered, SendActs}
 use Rattle.proxy_steps.specs.Lanes.{LaneObjects}
 use Rattle.proxy_steps.specs.Steps.{open_in, gathers, IsShelved, MayObey, Goes, GoesTo, Halts, Finishes, SomeKeeps, AreLaidBy, OwesClaim, ClaimsFound, IsCauseOfClaim, TellsWrote, IsCauseOf}
+use Rattle.run_plan.specs.declared.plan.Plan.{Plan}
+use Rattle.proxy_lane.specs.Held.{ByOpenLine}
 use Rattle.proxy_lane.specs.declared.site.Site.{Site}
 use Rattle.proxy_lane.specs.declared.site.Request.{Request}
 use Rattle.proxy_lane.specs.declared.lane.ProxyLane.{ProxyLane}
@@ -57,30 +59,34 @@ pub record IsSite {M G Q R : Type 0} {g : Ghosts M Call Reply G Q} (rules : Q �
   pub settings : FitsSettings (rules (basis p)) site.berth site.speech site.settings.now
   pub work : IsWorkOf (rules (basis p)).plan site.actions.now
 
-module _ {M G Q R : Type 0} {g : Ghosts M Call Reply G Q} (rules : Q → Discipline) (site : Site R)
-    (p : Pass M Call Reply G Q g) where
+module _ {M G Q B D T K R : Type 0} {g : Ghosts M Call Reply G Q} (rules : Q → Discipline)
+    (x : ProxyLane M B R Call Reply G Q D T K g) where
+  -- the plan of the core
+  abbrev pub plan_at : Plan
+  plan_at = (rules (basis x.caller.pass)).plan
+
   -- this is the work of the action with this number
   abbrev pub IsWorkAt : ℕ → WorkAction → Type 0
-  IsWorkAt a work = IsWork (outputs_in (rules (basis p)).plan a) (makers_in (rules (basis p)).plan a) work
+  IsWorkAt a work = IsWork (outputs_in plan_at a) (makers_in plan_at a) work
 
   -- the request is due, its group has a command, and its work is that of its action
   pub record IsDue (request : Request) : Type 0 where
-    pub at_site : IsSite rules site p
-    pub owes : duty_of (mine p) ≡ sends request
-    pub group : HasGroup site.settings.now request.attempt
+    pub at_site : IsSite rules x.site x.caller.pass
+    pub owes : duty_of (mine x.caller.pass) ≡ sends request
+    pub group : HasGroup x.site.settings.now request.attempt
     pub of_action : IsWorkAt request.attempt.action request.work.now
 
   -- the answer is to be gathered, its group has a command, and this is the work of its action
   pub record IsToGather (answer : Answered) (work : WorkAction) : Type 0 where
-    pub at_site : IsSite rules site p
-    pub owes : duty_of (mine p) ≡ gathers answer
-    pub group : HasGroup site.settings.now answer.attempt
+    pub at_site : IsSite rules x.site x.caller.pass
+    pub owes : duty_of (mine x.caller.pass) ≡ gathers answer
+    pub group : HasGroup x.site.settings.now answer.attempt
     pub of_action : IsWorkAt answer.attempt.action work
 
   -- what was found for the attempt may be claimed, and this is the work of its action
   pub record MayClaim (attempt : Attempt) (work : WorkAction) (found : Found) : Type 0 where
-    pub at_site : IsSite rules site p
-    pub may : OwesClaim rules site.berth attempt found p
+    pub at_site : IsSite rules x.site x.caller.pass
+    pub may : OwesClaim rules x.site.berth attempt found x.caller.pass
     pub of_action : IsWorkAt attempt.action work
 
 module _ {M G Q B D T K R : Type 0} {g : Ghosts M Call Reply G Q} where
@@ -91,6 +97,11 @@ module _ {M G Q B D T K R : Type 0} {g : Ghosts M Call Reply G Q} where
   -- it has the site and the pass that it had
   pub record IsSameLane (x x' : ProxyLane M B R Call Reply G Q D T K g) : Type 0 where
     pub pass : IsSamePass x.caller.pass x'.caller.pass
+    pub site : x'.site ≡ x.site
+
+  -- it made no entry, and has the site that it had
+  pub record StaysHere (x x' : ProxyLane M B R Call Reply G Q D T K g) : Type 0 where
+    pub stays : Stays x.caller.pass x'.caller.pass
     pub site : x'.site ≡ x.site
 
   module _ (rules : Q → Discipline) where
@@ -115,42 +126,53 @@ module _ {M G Q B D T K R : Type 0} {g : Ghosts M Call Reply G Q} where
 
 -- ---- what a lane leaves
 
-module _ {M G Q : Type 0} {g : Ghosts M Call Reply G Q} (rules : Q → Discipline) where
-  -- Looks that were made by then told this
-  abbrev pub WereTold : List Looked → Pass M Call Reply G Q g → Pass M Call Reply G Q g → Type 0
-  WereTold looks p p' = AreTold (answer_after (rules (basis p))) p.lane (seen p') looks
+module _ {M G Q B D T K R : Type 0} {g : Ghosts M Call Reply G Q} (rules : Q → Discipline)
+    (x x' : ProxyLane M B R Call Reply G Q D T K g) where
+  -- the rule of the core, by which replies to the lane come
+  abbrev pub rule_at : History → ℕ → Call → Reply
+  rule_at = answer_after (rules (basis x.caller.pass))
 
-  -- what was done for a request, by the berth and the feed
-  abbrev pub SendsAt : {R : Type 0} → Site R → Request → Result Written NoMemory → Pass M Call Reply G Q g
-      → Pass M Call Reply G Q g → BerthTold → BerthTold → FeedTold → FeedTold → Type 0
-  SendsAt site x result p p' old new before after = SendActs (means_at site) x.attempt (answer_after (rules (basis p)))
-      p.lane x.line x.number x.work.now result (seen p') old new before after
+  -- Looks that were made by then told this
+  abbrev pub WereTold : List Looked → Type 0
+  WereTold looks = AreTold rule_at x.caller.pass.lane (seen x'.caller.pass) looks
+
+  -- what was done for a request, by the berth and the feed of the open line
+  abbrev pub SendsAt : Request → Result Written NoMemory → Type 0
+  SendsAt request result = ByOpenLine (SendActs (means_at x.site) request.attempt rule_at
+      x.caller.pass.lane request.line request.number request.work.now result (seen x'.caller.pass))
+      x.hands x'.hands
 
   -- what the Looks at the outputs of an executor's answer gave
-  abbrev pub HasAnswered : Answered → WorkAction → Found → Pass M Call Reply G Q g
-      → Pass M Call Reply G Q g → Type 0
-  HasAnswered x work found p p' = IsAnswered (answer_after (rules (basis p))) p.lane x.line x.number
-      (length work.outputs) found (seen p')
+  abbrev pub HasAnswered : Answered → WorkAction → Found → Type 0
+  HasAnswered answer work found = IsAnswered rule_at x.caller.pass.lane answer.line answer.number
+      (length work.outputs) found (seen x'.caller.pass)
 
   -- what was done for an answer, by the berth
-  abbrev pub GathersAt : {R : Type 0} → Site R → Answered → WorkAction → Result Found NoMemory
-      → Pass M Call Reply G Q g → Pass M Call Reply G Q g → BerthTold → BerthTold → Type 0
-  GathersAt site x work result p p' old new = GatherActs (means_at site) x.attempt
-      (answer_after (rules (basis p))) p.lane x.line x.number work result (seen p') old new
+  abbrev pub GathersAt : Answered → WorkAction → Result Found NoMemory → Type 0
+  GathersAt answer work result = GatherActs (means_at x.site) answer.attempt rule_at
+      x.caller.pass.lane answer.line answer.number work result (seen x'.caller.pass)
+      x.hands.berth x'.hands.berth
 
-module _ {M G Q A : Type 0} {g : Ghosts M Call Reply G Q} (result : Result A ProxyHalt)
-    (p p' : Pass M Call Reply G Q g) where
-  -- what was written was reported, or the lane is to halt
+module _ {M G Q B D T K R A : Type 0} {g : Ghosts M Call Reply G Q} (result : Result A ProxyHalt)
+    (x x' : ProxyLane M B R Call Reply G Q D T K g) where
+  -- What was written was reported, or the lane is to halt. Its hands are as they were.
   pub record ReportsWrote (line : ℕ) (number : ℤ) (wrote : Result Written NoMemory) : Type 0 where
-    pub same : IsSamePass p p'
-    pub told : OnOk result ((duty_of (mine p') ≡ Asks) × TellsWrote line number wrote p p')
-    pub refused : IfErr result (λ cause. MakesNone p p' × IsCauseOf line number wrote cause)
+    pub same : IsSameLane x x'
+    pub hands : x'.hands ≡ x.hands
+    pub told : OnOk result ((duty_of (mine x'.caller.pass) ≡ Asks)
+        × TellsWrote line number wrote x.caller.pass x'.caller.pass)
+    pub refused : IfErr result (λ cause. MakesNone x.caller.pass x'.caller.pass
+        × IsCauseOf line number wrote cause)
 
-  -- what was found was claimed, and committed where it was granted; or the lane is to halt
+  -- What was found was claimed, and committed where it was granted; or the lane is to halt. Its hands
+  -- are as they were.
   pub record Claims (attempt : Attempt) (found : Found) : Type 0 where
-    pub same : IsSamePass p p'
-    pub claims : OnOk result ((duty_of (mine p') ≡ Asks) × ClaimsFound attempt found p p')
-    pub refused : IfErr result (λ cause. MakesNone p p' × IsCauseOfClaim attempt found cause)
+    pub same : IsSameLane x x'
+    pub hands : x'.hands ≡ x.hands
+    pub claims : OnOk result ((duty_of (mine x'.caller.pass) ≡ Asks)
+        × ClaimsFound attempt found x.caller.pass x'.caller.pass)
+    pub refused : IfErr result (λ cause. MakesNone x.caller.pass x'.caller.pass
+        × IsCauseOfClaim attempt found cause)
 
 module _ {M G Q : Type 0} {g : Ghosts M Call Reply G Q} (means : Means) (rules : Q → Discipline) where
   -- The order was carried out and reported, and the lane is to ask again; or it is to halt.

@@ -1,7 +1,10 @@
 -- What is called on a berth for work that is due, and the bytes that are due.
-use Rattle.std.specs.Prelude.{List, [], if◌then◌else◌}
+use Rattle.std.specs.Prelude.{◌≡◌, ℤ, List, [], if◌then◌else◌, Result}
+use Rattle.plain_values.specs.declared.no_memory.NoMemory.{NoMemory}
 use Rattle.run_plan.specs.declared.plan.Speech.{Speech}
 use Rattle.exec_journal.specs.declared.attempt.Attempt.{Attempt}
+use Rattle.exec_journal.specs.declared.call.Written.{Written}
+use Rattle.outside.specs.Told.{BerthTold, FeedTold}
 use Rattle.sandbox_rooms.specs.declared.room.Room.{Room}
 use Rattle.sandbox_rooms.specs.Calls.{Asked}
 use Rattle.sandbox_rooms.specs.Rooms.{prepare_asks}
@@ -9,6 +12,7 @@ use Rattle.due_frames.specs.declared.frames.Due.{Due}
 use Rattle.due_frames.specs.declared.requests.DueWork.{DueWork}
 use Rattle.run_values.specs.Settings.{speaks_remote}
 use Rattle.proxy_deeds.specs.Deeds.{send_asks, due_for}
+use Rattle.proxy_steps.specs.Acts.{CancelActs}
 use Rattle.proxy_lane.specs.declared.site.Site.{Site}
 use Rattle.proxy_lane.specs.Sites.{means_at}
 
@@ -24,3 +28,8 @@ module _ {R : Type 0} (site : Site R) (t : Attempt) (work : DueWork) where
 
   abbrev pub due_of : Due
   due_of = due_for (means_at site) t work.number work.action.now work.inputs.now
+
+-- the bytes of a Cancel are given to the feed, and nothing is called on the berth
+abbrev pub CancelsBy : Speech → ℤ → Result Written NoMemory → BerthTold → BerthTold → FeedTold
+    → FeedTold → Type 0
+CancelsBy speech n result old new before after = (new ≡ old) × CancelActs speech n result before after

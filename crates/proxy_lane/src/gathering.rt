@@ -1,24 +1,25 @@
 //! A proxy lane's work for a Gather.
-ghost use Rattle.std.specs.Prelude.{◌≡◌, IfOk, OnErr};
+ghost use Rattle.std.specs.Prelude.{◌≡◌, ◌<◌, ◌^◌, IfOk, OnErr, length};
+ghost use Rattle.sandbox_rooms.specs.Rooms.{gather_asks};
+ghost use Rattle.order_acts.specs.Acts.{ReportsLooks, FoundFits};
 ghost use Rattle.proxy_calls.specs.declared.asking.Order.TheVariants as order;
-ghost use Rattle.proxy_calls.specs.Calls.{Stays};
 ghost use Rattle.proxy_steps.specs.Steps.{OwesClaim, files_in, HasFiles};
-ghost use Rattle.proxy_lane.specs.Sites.{IsOrdered, IsToGather, IsGood, MayClaim, HasAnswered, GathersAt, Claims, Obeys};
+ghost use Rattle.proxy_lane.specs.Held.{with_berth};
+ghost use Rattle.proxy_lane.specs.Sites.{IsOrdered, IsToGather, IsGood, MayClaim, StaysHere, HasAnswered, GathersAt, Claims, Obeys};
 
-use crate::hands::{action_at, is_executor};
+use crate::hands::{Hands, action_at, is_executor};
 use crate::lane::ProxyLane;
-use crate::site::Site;
 use core_bench::Bench;
 use core_contract::Rules;
 use due_frames::room_of;
 use exec_journal::{Attempt, Found, Wanted};
-use lane_crew::Caller;
 use order_acts::gather_line;
 use outside::{Berth, Place};
-use plain_values::{Blob, Items, NoMemory};
+use plain_values::{Blob, Items, NoMemory, Text};
 use proxy_calls::{Answered, Grant, claim, commit_files, look};
 use proxy_deeds::ProxyHalt;
 use remote_messages::WorkAction;
+use sandbox_rooms::Room;
 use std::alloc::Global;
 use std::sync::Wait;
 
@@ -33,103 +34,105 @@ impl<'a, B: Berth, P: Place, C: Rules, R: Wait> ProxyLane<'a, Bench<B, P, C>, B,
         ensures { Obeys C.discipline result self.old self.new }
     {
         let work = action_at(self.site.actions, answer.attempt.action);
-        let berth = &mut self.hands.berth;
-        match act_gather(&self.site, work, &mut self.caller, berth, answer) {
-            Ok(found) => claim_found(&self.site, work, &mut self.caller, answer.attempt, found),
+        match self.act_gather(work, answer) {
+            Ok(found) => self.claim_found(work, answer.attempt, found),
             Err(_) => Err(ProxyHalt::NoMemory),
         }
     }
-}
 
-// Returns what was found for the answer. The outputs are looked at if the exit code is 0 and the
-// answer wasn't refused. They are in the room or, for an executor's answer, among its files. If the
-// function returns `NoMemory`, no look has failed.
-fn act_gather<B: Berth, P: Place, C: Rules, R: Wait>(
-    site: &Site<'_, R>,
-    work: &WorkAction,
-    caller: &mut Caller<'_, Bench<B, P, C>>,
-    berth: &mut B,
-    answer: &Answered,
-) -> Result<Found, NoMemory>
-    requires { IsToGather C.discipline site.now caller.old.pass answer.now work.now }
-    ensures stays { Stays caller.old.pass caller.new.pass }
-    ensures acts { GathersAt C.discipline site.now answer.now work.now result
-        caller.old.pass caller.new.pass (B.told berth.old) (B.told berth.new) }
-    ensures may { IfOk result (λ found. OwesClaim C.discipline site.now.berth answer.now.attempt found
-        caller.new.pass) }
-{
-    if answer.exit != 0 {
-        return Ok(Found::Exit(answer.exit));
-    }
-    if answer.refused {
-        return Ok(Found::Refused);
-    }
-    if is_executor(site.speech) {
-        return answered(site, work, caller, answer);
-    }
-    let kind = site.settings.kind_of(answer.attempt);
-    let room = room_of(kind, answer.number);
-    gather_line(site.alloc, berth, room, work.outputs.as_slice())
-}
-
-// Returns the files of the outputs in an executor's answer, or the first output that the answer
-// lacks.
-fn answered<B: Berth, P: Place, C: Rules, R: Wait>(
-    site: &Site<'_, R>,
-    work: &WorkAction,
-    caller: &mut Caller<'_, Bench<B, P, C>>,
-    answer: &Answered,
-) -> Result<Found, NoMemory>
-    requires gather { IsToGather C.discipline site.now caller.old.pass answer.now work.now }
-    requires good { IsGood answer.now }
-    ensures stays { Stays caller.old.pass caller.new.pass }
-    ensures answered { IfOk result (λ found. HasAnswered C.discipline answer.now work.now found
-        caller.old.pass caller.new.pass) }
-{
-    let outputs = work.outputs.as_slice().len();
-    let mut files = Vec::with_capacity(site.alloc, outputs)?;
-    for output in 0..outputs as u32 {
-        let wanted = Wanted::Answered {
-            line: answer.line,
-            number: answer.number,
-            output,
-        };
-        match look(site.rt, caller, site.berth, wanted)? {
-            Some(bytes) => files.push(bytes)?,
-            None => return Ok(Found::Missing(output)),
+    // Returns what was found for the answer. The outputs are looked at if the exit code is 0 and the
+    // answer wasn't refused. They are in the room or, for an executor's answer, among its files. If
+    // the function returns `NoMemory`, no look has failed.
+    fn act_gather(&mut self, work: &WorkAction, answer: &Answered) -> Result<Found, NoMemory>
+        requires { IsToGather C.discipline self.old answer.now work.now }
+        ensures stays { StaysHere self.old self.new }
+        ensures hands { self.new.hands ≡ with_berth self.new.hands.berth self.old.hands }
+        ensures acts { GathersAt C.discipline self.old self.new answer.now work.now result }
+        ensures may { IfOk result (λ found. OwesClaim C.discipline self.old.site.berth
+            answer.now.attempt found self.new.caller.pass) }
+    {
+        if answer.exit != 0 {
+            return Ok(Found::Exit(answer.exit));
         }
+        if answer.refused {
+            return Ok(Found::Refused);
+        }
+        if is_executor(self.site.speech) {
+            return self.answered(work, answer);
+        }
+        let kind = self.site.settings.kind_of(answer.attempt);
+        let room = room_of(kind, answer.number);
+        self.hands
+            .gather(self.site.alloc, room, work.outputs.as_slice())
     }
-    Ok(Found::Files(Items::of(files)))
-}
 
-// Claims what was found. The files are shared beforehand, so no lack of memory can occur between a
-// grant and its Committed.
-fn claim_found<B: Berth, P: Place, C: Rules, R: Wait>(
-    site: &Site<'_, R>,
-    work: &WorkAction,
-    caller: &mut Caller<'_, Bench<B, P, C>>,
-    attempt: Attempt,
-    found: Found,
-) -> Result<(), ProxyHalt>
-    requires { MayClaim C.discipline site.now caller.old.pass attempt work.now found }
-    ensures { Claims result caller.old.pass caller.new.pass attempt found }
-{
-    match copies_of(site.alloc, &found) {
-        Ok(copies) => match claim(site.rt, caller, site.berth, attempt, found) {
-            Ok(Some(place)) => {
+    // Returns the files of the outputs in an executor's answer, or the first output that the answer
+    // lacks.
+    fn answered(&mut self, work: &WorkAction, answer: &Answered) -> Result<Found, NoMemory>
+        requires gather { IsToGather C.discipline self.old answer.now work.now }
+        requires good { IsGood answer.now }
+        ensures stays { StaysHere self.old self.new }
+        ensures hands { self.new.hands ≡ self.old.hands }
+        ensures answered { IfOk result (HasAnswered C.discipline self.old self.new
+            answer.now work.now) }
+    {
+        let outputs = work.outputs.as_slice().len();
+        let mut files = Vec::with_capacity(self.site.alloc, outputs)?;
+        for output in 0..outputs as u32 {
+            let wanted = Wanted::Answered {
+                line: answer.line,
+                number: answer.number,
+                output,
+            };
+            match look(self.site.rt, &mut self.caller, self.site.berth, wanted)? {
+                Some(bytes) => files.push(bytes)?,
+                None => return Ok(Found::Missing(output)),
+            }
+        }
+        Ok(Found::Files(Items::of(files)))
+    }
+
+    // Claims what was found. The files are shared beforehand, so no lack of memory can occur between
+    // a grant and its Committed.
+    fn claim_found(
+        &mut self,
+        work: &WorkAction,
+        attempt: Attempt,
+        found: Found,
+    ) -> Result<(), ProxyHalt>
+        requires { MayClaim C.discipline self.old attempt work.now found }
+        ensures { Claims result self.old self.new attempt found }
+    {
+        let Ok(copies) = copies_of(self.site.alloc, &found) else {
+            return Err(ProxyHalt::NoMemory);
+        };
+        let (rt, berth) = (self.site.rt, self.site.berth);
+        match claim(rt, &mut self.caller, berth, attempt, found)? {
+            Some(place) => {
                 let grant = Grant {
                     attempt,
                     files: copies.as_slice(),
                     outputs: work.outputs.as_slice(),
                     place,
                 };
-                commit_files(site.rt, caller, site.berth, grant);
+                commit_files(rt, &mut self.caller, berth, grant);
                 Ok(())
             }
-            Ok(None) => Ok(()),
-            Err(cause) => Err(cause),
-        },
-        Err(_) => Err(ProxyHalt::NoMemory),
+            None => Ok(()),
+        }
+    }
+}
+
+impl<B: Berth> Hands<B> {
+    // Looks at the outputs in the room.
+    fn gather(&mut self, alloc: Global, room: Room, outputs: &[Text]) -> Result<Found, NoMemory>
+        requires { length outputs.now < 2 ^ 32 }
+        ensures hands { self.new ≡ with_berth self.new.berth self.old }
+        ensures looks { ReportsLooks (gather_asks room outputs.now) result
+            self.old.berth self.new.berth }
+        ensures fits { FoundFits (length outputs.now) result }
+    {
+        gather_line(alloc, &mut self.berth, room, outputs)
     }
 }
 

@@ -1,9 +1,9 @@
 //! The context of a proxy lane, and a request for a line.
 
 use exec_journal::Attempt;
-use run_values::Settings;
 use remote_messages::WorkAction;
 use run_plan::Speech;
+use run_values::Settings;
 use std::alloc::Global;
 
 /// The context of a proxy lane: the berth's number, its protocol, the settings and the actions.

@@ -1,74 +1,69 @@
-use Rattle.std.specs.Prelude.{ℤ, option_map}
-use Rattle.std.proofs.Common.{◌≡◌, refl, ap, sym, subst, ◌∙◌}
+use Rattle.std.specs.Prelude.{ℤ}
+use Rattle.std.proofs.Common.{◌≡◌, ap, refl, sym, subst, ◌∙◌}
 use Rattle.std.proofs.Math.Facts.{to_z-of_z}
 use Rattle.seat_desk.specs.Passes.{mine}
 use Rattle.core_contract.specs.Duties.{Asks, duty_of}
 use Rattle.proxy_calls.specs.Calls.{MakesNone}
-use Rattle.proxy_steps.specs.Acts.{CancelActs}
-use Rattle.proxy_steps.specs.Lanes.{open_of, open_line}
-use Rattle.proxy_steps.specs.Steps.{open_in, OwesWrote, TellsWrote, IsCauseOf}
-use Rattle.proxy_steps.proofs.Acting.{line_is, no_line, cancel_owed}
+use Rattle.proxy_steps.specs.Lanes.{open_line}
+use Rattle.proxy_steps.specs.Steps.{OwesWrote, TellsWrote, IsCauseOf}
+use Rattle.proxy_steps.proofs.Acting.{cancel_owed}
 use Rattle.proxy_steps.proofs.Shelving.{wrote_shelved}
 use Rattle.proxy_steps.proofs.Sends.{cancel_goes, cancel_halts}
-use Rattle.proxy_lane.specs.Held.{held_of}
+use Rattle.proxy_lane.specs.Held.{ByOpenLine, with_feed}
 use Rattle.proxy_lane.specs.Sites.{means_at, ReportsWrote}
-use Rattle.proxy_lane.proofs.Siting.{obeys_by, stays_at, still_tidy, ordered_at, obeys_at}
+use Rattle.proxy_lane.specs.Writing.{CancelsBy}
+use Rattle.proxy_lane.proofs.Siting.{is_open, obeys_by, obeys_with, open_is, stays_at}
 use Rattle.proxy_lane.proofs.sending.ProxyLane+Bench+B+P+C+B+R.cancel.Goals as goal
+
+pub cancel-wrote-requires : goal.cancel-wrote-requires
+cancel-wrote-requires g c = is_open c.args.self.now.hands c.args.line c.requires.may.1
 
 pub report-requires-clause-owes : goal.report-requires-clause-owes
 report-requires-clause-owes g c =
-    let old = g.B.Feed.Feed.told c.in-Some.open.feed in
-    let new = g.B.Feed.Feed.told c.act_cancel-wrote.new.feed in
-    let own = c.self.inside.0.1.0.pass.seat.me.0.mine in
-    let wrote = c.act_cancel-wrote.result in
-    let speech = c.self.inside.0.0.speech in
+    let speech = c.args.self.now.site.speech in
+    let own = c.args.self.now.caller.pass.seat.me.0.mine in
+    let wrote = c.cancel-wrote.result in
+    let done = c.cancel-wrote.ensures in
     subst (λ (n : ℤ). OwesWrote c.args.line n wrote own) (sym (to_z-of_z c.ranges.number))
-    (cancel_owed speech c.args.number c.args.line wrote own old new (ordered_at g.C.Rules.discipline g.B.Child.Child.told _ _ c.args.self.now c.self.view_is c.requires).may.0
-    (subst (λ (n : ℤ). CancelActs speech n wrote old new) (to_z-of_z c.ranges.number) c.act_cancel-wrote.ensures))
-
-pub unreachable-requires : goal.unreachable-requires
-unreachable-requires g c = no_line g.B.Feed.Feed.told c.self.inside.0.1.1.0.«open» c.args.line
-    (ordered_at g.C.Rules.discipline g.B.Child.Child.told _ _ c.args.self.now c.self.view_is c.requires).may.1 (sym c.take.ensures.value ∙ c.in-None.is)
+    (cancel_owed speech c.args.number c.args.line wrote own done.was_open.feed done.feed c.requires.may.0
+    (subst (λ (n : ℤ). CancelsBy speech n wrote c.args.self.now.hands.berth c.cancel-wrote.new.self.berth
+    done.was_open.feed done.feed) (to_z-of_z c.ranges.number) done.done).1)
 
 pub returns : goal.returns
 returns g c =
-    let req = ordered_at g.C.Rules.discipline g.B.Child.Child.told _ _ c.args.self.now c.self.view_is c.requires in
-    let means = means_at c.self.inside.0.0 in
     let rules = g.C.Rules.discipline in
-    let p = c.self.inside.0.1.0.pass in
-    let p2 = c.report.new.caller.pass in
-    let feed = g.B.Feed.Feed.told in
-    let inside = c.self.inside.0.1.1.0 in
-    let h = held_of g.B.Berth.told feed g.B.Child.Child.told inside.berth inside.«open» inside.ended inside.unsaid in
+    let x0 = c.args.self.now in
+    let x2 = c.report.new.self in
+    let means = means_at x0.site in
+    let p = x0.caller.pass in
+    let p2 = x2.caller.pass in
+    let h = x0.hands in
     let l = c.args.line in
     let n = c.args.number in
-    let order = req.may in
-    let was = sym c.take.ensures.value ∙ c.in-Some.is in
-    let o = open_of feed c.in-Some.open in
-    let is_open = ap (option_map (open_of feed)) was in
-    let of = line_is feed inside.«open» c.in-Some.open l order.1 was in
-    let wrote = c.act_cancel-wrote.result in
+    let order = c.requires.may in
+    let wrote = c.cancel-wrote.result in
     let none = (stays_at p).none in
-    let new = g.B.Berth.told inside.berth in
-    let after = feed c.act_cancel-wrote.new.feed in
-    let acts = subst (λ (n : ℤ). CancelActs means.speech n wrote o.feed after) (to_z-of_z c.ranges.number)
-    c.act_cancel-wrote.ensures in
-    let reports = subst (λ (n : ℤ). ReportsWrote c.report.result p p2 l n wrote) (to_z-of_z c.ranges.number)
+    let new = c.cancel-wrote.new.self.berth in
+    let acts = subst (λ (m : ℤ). ByOpenLine (CancelsBy means.speech m wrote) h c.cancel-wrote.new.self)
+    (to_z-of_z c.ranges.number) c.cancel-wrote.ensures in
+    let o = acts.was_open in
+    let of = open_is h o l order.1 acts.was in
+    let then = with_feed new o acts.feed h in
+    let reports = subst (λ (m : ℤ). ReportsWrote c.report.result _ x2 l m wrote) (to_z-of_z c.ranges.number)
     c.report.ensures in
-    obeys_at g.C.Rules.discipline _ _ c.args.self.now c.self.view_is (record {
-      same = record { pass = reports.same; site = refl };
-      tidy = still_tidy c.self.inside.0.0.berth p p2 (open_in h) _
-          (wrote_shelved c.self.inside.0.0.berth l n wrote p p p2 c.report.result req.at_site.lane.0
-          none refl reports.told reports.refused)
-          (sym (ap open_line is_open)) order.2;
-      goes = obeys_by means rules c.report.result p h p2 _
-          ((duty_of (mine p2) ≡ Asks) × TellsWrote l n wrote p p2)
-          (λ by. MakesNone p p2 × IsCauseOf l n wrote by)
-          (λ x. (
-            x.0,
-            cancel_goes means rules p p p2 h o is_open l n of none refl new after order.0 refl wrote acts x.1,
-          ))
-          (λ by x. cancel_halts means rules p p p2 h o is_open l n of none refl new after order.0 refl
-          wrote by acts x.0 x.1)
-          reports.told reports.refused;
-    })
+    obeys_with rules c.report.result x0 x2 then
+    (record { pass = reports.same.pass; site = reports.same.site })
+    (reports.hands ∙ acts.is)
+    (wrote_shelved x0.site.berth l n wrote p p p2 c.report.result c.requires.at_site.lane.0
+    none refl reports.told reports.refused ∙ (order.2 ∙ ap open_line acts.was))
+    (obeys_by means rules c.report.result p h p2 then
+    ((duty_of (mine p2) ≡ Asks) × TellsWrote l n wrote p p2)
+    (λ by. MakesNone p p2 × IsCauseOf l n wrote by)
+    (λ x. (
+      x.0,
+      cancel_goes means rules p p p2 h o acts.was l n of none refl new acts.feed order.0 acts.done.0 wrote
+          acts.done.1 x.1,
+    ))
+    (λ by x. cancel_halts means rules p p p2 h o acts.was l n of none refl new acts.feed order.0 acts.done.0
+    wrote by acts.done.1 x.0 x.1)
+    reports.told reports.refused)

@@ -12,6 +12,7 @@ use Rattle.core_contract.specs.Moves.{History}
 use Rattle.core_contract.specs.Shelf.{Fresh}
 use Rattle.std.specs.Prelude.{if◌then◌else◌, pos}
 use Rattle.std.proofs.lemmas.Bool.{eqb-true}
+use Rattle.std.proofs.lemmas.Result.{err_from_is_err_and}
 use Rattle.core_contract.specs.Discipline.{Discipline, outputs_in}
 use Rattle.exec_journal.specs.Entries.{same_attempt}
 use Rattle.core_contract.specs.Duties.{Duty, Asks, Launches, Sends, Cancels, Gathers, Commits, Kills, Left, duty_of, may_do}
@@ -22,7 +23,7 @@ use Rattle.proxy_steps.specs.Steps.{files_in, IsCauseOfClaim}
 use Rattle.proxy_steps.proofs.Sends.{starts_later}
 use Rattle.proxy_steps.proofs.Serving.{proxy_on, by_rules}
 use Rattle.proxy_lane.proofs.Siting.{same_on, stays_at}
-use Rattle.proxy_lane.proofs.gathering.claim_found.Goals as goal
+use Rattle.proxy_lane.proofs.gathering.ProxyLane+Bench+B+P+C+B+R.claim_found.Goals as goal
 
 -- what is granted is files, which are to be committed to the place
 some_granted : {P : Type 0} (told : P → PlaceTold) (outputs : List (List ℕ)) (t : Attempt) (place : P)
@@ -98,12 +99,12 @@ pub claim-requires-clause-may : goal.claim-requires-clause-may
 claim-requires-clause-may g c = c.requires.may
 
 pub commit_files-requires-clause-lane : goal.commit_files-requires-clause-lane
-commit_files-requires-clause-lane g c = proxy_on g.C.Rules.discipline c.args.site.now.berth
-    c.args.caller.now.pass c.claim.new.caller.pass c.claim.ensures.same c.requires.at_site.lane
+commit_files-requires-clause-lane g c = proxy_on g.C.Rules.discipline c.args.self.now.site.berth
+    c.args.self.now.caller.pass c.claim.new.caller.pass c.claim.ensures.same c.requires.at_site.lane
 
 pub commit_files-requires-clause-may : goal.commit_files-requires-clause-may
 commit_files-requires-clause-may g c =
-    let p = c.args.caller.now.pass in
+    let p = c.args.self.now.caller.pass in
     let p1 = c.claim.new.caller.pass in
     let t = c.args.attempt in
     let f = c.args.found in
@@ -111,11 +112,11 @@ commit_files-requires-clause-may g c =
     let discipline = g.C.Rules.discipline (basis p) in
     let outputs = outputs_in discipline.plan t.action in
     let work = c.args.work.now.outputs in
-    let paths = c.as_slice-in-Ok-Some.ensures in
-    let claimed = c.in-Ok-Some.ensures.claimed in
+    let paths = c.as_slice-in-Some.ensures in
+    let claimed = c.in-Some.ensures.claimed in
     let granted = subst (λ (o : Option g.row.P.Denot). IsGranted told outputs t o f claimed.reply (mine p1))
-    c.in-Ok-Some.field-0-is claimed.granted in
-    let owes = some_granted told outputs t c.in-Ok-Some.place f claimed.reply (mine p1) granted in
+    c.in-Some.field-0-is claimed.granted in
+    let owes = some_granted told outputs t c.in-Some.place f claimed.reply (mine p1) granted in
     let copies = c.as_slice.ensures.value ∙ c.in-Ok.ensures.ok in
     let of : outputs ≡ work = sym c.requires.of_action.same_outputs in
     record {
@@ -123,32 +124,33 @@ commit_files-requires-clause-may g c =
       outputs = by_rules (λ q. outputs_in (g.C.Rules.discipline q).plan t.action ≡ work) p p1 c.claim.ensures.same of
           ∙ sym paths;
       fits = ap length copies
-          ∙ (granted_fits told discipline c.args.site.now.berth (duty_of (mine p)) t c.in-Ok-Some.place f claimed.reply
+          ∙ (granted_fits told discipline c.args.self.now.site.berth (duty_of (mine p)) t c.in-Some.place f claimed.reply
           (mine p1) granted c.requires.may ∙ ap length (of ∙ sym paths));
       few = subst (λ (xs : List (List ℕ)). length xs < 2 ^ 32) (sym paths) c.requires.of_action.few;
-      place = subst (λ (xs : List (List ℕ)). IsPlaceAt t.action xs Fresh (told c.in-Ok-Some.place))
+      place = subst (λ (xs : List (List ℕ)). IsPlaceAt t.action xs Fresh (told c.in-Some.place))
           (of ∙ sym paths) owes.1;
     }
 
-pub returns-in-Ok-Some : goal.returns-in-Ok-Some
-returns-in-Ok-Some g c =
-    let p = c.args.caller.now.pass in
+pub returns-in-Some : goal.returns-in-Some
+returns-in-Some g c =
+    let p = c.args.self.now.caller.pass in
     let p1 = c.claim.new.caller.pass in
     let p2 = c.commit_files.new.caller.pass in
     let t = c.args.attempt in
     let f = c.args.found in
     let told = g.P.Place.told in
     let outputs = outputs_in (g.C.Rules.discipline (basis p)).plan t.action in
-    let claimed = c.in-Ok-Some.ensures.claimed in
+    let claimed = c.in-Some.ensures.claimed in
     let granted = subst (λ (o : Option g.row.P.Denot). IsGranted told outputs t o f claimed.reply (mine p1))
-    c.in-Ok-Some.field-0-is claimed.granted in
-    let owes = some_granted told outputs t c.in-Ok-Some.place f claimed.reply (mine p1) granted in
+    c.in-Some.field-0-is claimed.granted in
+    let owes = some_granted told outputs t c.in-Some.place f claimed.reply (mine p1) granted in
     let done = c.commit_files.ensures.committed in
     let made = subst (λ (n : ℕ). mine p2 ≡ mine p1
     ++ entry n (call.Committed t.action t.branch done.0) reply.Noted ∷ []) c.claim.ensures.same.1
     done.1.1 in
     record {
-      same = same_on p p1 p2 c.claim.ensures.same c.commit_files.ensures.same;
+      same = record { pass = same_on p p1 p2 c.claim.ensures.same c.commit_files.ensures.same; site = refl };
+      hands = refl;
       claims = (
         c.commit_files.ensures.asks,
         (
@@ -159,35 +161,43 @@ returns-in-Ok-Some g c =
       refused = tt;
     }
 
-pub returns-in-Ok-None : goal.returns-in-Ok-None
-returns-in-Ok-None g c =
-    let p = c.args.caller.now.pass in
+pub returns-in-None : goal.returns-in-None
+returns-in-None g c =
+    let p = c.args.self.now.caller.pass in
     let p1 = c.claim.new.caller.pass in
     let t = c.args.attempt in
-    let claimed = c.in-Ok-None.ensures.claimed in
+    let claimed = c.in-None.ensures.claimed in
     record {
-      same = c.claim.ensures.same;
+      same = record { pass = c.claim.ensures.same; site = refl };
+      hands = refl;
       claims = (
         subst (λ (o : Option g.row.P.Denot). IsGranted g.P.Place.told (outputs_in (g.C.Rules.discipline (basis p)).plan t.action)
-            t o c.args.found claimed.reply (mine p1)) c.in-Ok-None.field-0-is claimed.granted,
+            t o c.args.found claimed.reply (mine p1)) c.in-None.field-0-is claimed.granted,
         (claimed.made.0, (claimed.reply, mine p1, claimed.made.1, inl refl)),
       );
       refused = tt;
     }
 
-pub returns-in-Ok : goal.returns-in-Ok
-returns-in-Ok g c =
-    let x = c.in-Err-claim.ensures.refused in
-    record {
-      same = c.claim.ensures.same;
+pub returns-in_err-place : goal.returns-in_err-place
+returns-in_err-place g c =
+    let x = c.in_err-place.ensures.refused in
+    let e = err_from_is_err_and c.from_residual.result c.from_residual.ensures.1 in
+    rw (e.1, e.2) (record {
+      same = record { pass = c.claim.ensures.same; site = refl };
+      hands = refl;
       claims = tt;
       refused = (
         x.1,
         subst (λ (by : ProxyHalt). IsCauseOfClaim c.args.attempt c.args.found by) (sym x.0) refl,
       );
-    }
+    })
 
-pub returns : goal.returns
-returns g c =
-    let stays = stays_at c.args.caller.now.pass in
-    record { same = stays.same; claims = tt; refused = (stays.none, c.in-Err.ensures.err) }
+pub returns-in_else : goal.returns-in_else
+returns-in_else g c =
+    let stays = stays_at c.args.self.now.caller.pass in
+    record {
+      same = record { pass = stays.same; site = refl };
+      hands = refl;
+      claims = tt;
+      refused = (stays.none, c.in_else.ensures.err);
+    }

@@ -10,13 +10,13 @@ use Rattle.proxy_calls.specs.Reports.{Told}
 use Rattle.proxy_steps.specs.Steps.{OwesWrote, IsCauseOf}
 use Rattle.proxy_steps.proofs.Acting.{may_wrote}
 use Rattle.proxy_lane.proofs.Siting.{reports_wrote, stays_at}
-use Rattle.proxy_lane.proofs.sending.report.Goals as goal
+use Rattle.proxy_lane.proofs.sending.ProxyLane+Bench+B+P+C+B+R.report.Goals as goal
 
 pub tell-requires-clause-may : goal.tell-requires-clause-may
 tell-requires-clause-may g c =
-    let p = c.args.caller.now.pass in
+    let p = c.args.self.now.caller.pass in
     let q = g.C.Rules.discipline p.seat.me.0.basis in
-    let w = c.args.site.now.berth in
+    let w = c.args.self.now.site.berth in
     subst (λ (n : ℤ). may_do q w (duty_of p.seat.me.0.mine) (call.Wrote c.args.line n c.in-Ok.how) ≡ true)
     (sym (to_z-of_z c.ranges.number))
     (may_wrote q w p.seat.me.0.mine c.args.line c.args.number c.in-Ok.how
@@ -25,18 +25,18 @@ tell-requires-clause-may g c =
 
 pub returns-in-Ok : goal.returns-in-Ok
 returns-in-Ok g c =
-    let p = c.args.caller.now.pass in
-    let p2 = c.tell.new.caller.pass in
-    reports_wrote c.args.line c.args.number c.in-Ok.how c.args.wrote c.tell.result p p2 c.in-Ok.is
-    c.tell.ensures.same
-    (subst (λ (n : ℤ). Told (call.Wrote c.args.line n c.in-Ok.how) c.tell.result p p2)
-    (to_z-of_z c.ranges.number) c.tell.ensures.told)
+    let x = c.args.self.now in
+    reports_wrote c.args.line c.args.number c.in-Ok.how c.args.wrote c.tell.result x _ c.in-Ok.is
+    (record { pass = c.tell.ensures.same; site = refl }) refl
+    (subst (λ (n : ℤ). Told (call.Wrote c.args.line n c.in-Ok.how) c.tell.result x.caller.pass
+    c.tell.new.caller.pass) (to_z-of_z c.ranges.number) c.tell.ensures.told)
 
 pub returns-in-Err : goal.returns-in-Err
 returns-in-Err g c =
-    let stays = stays_at c.args.caller.now.pass in
+    let stays = stays_at c.args.self.now.caller.pass in
     record {
-      same = stays.same;
+      same = record { pass = stays.same; site = refl };
+      hands = refl;
       told = tt;
       refused = (
         stays.none,
