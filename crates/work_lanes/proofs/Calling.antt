@@ -16,10 +16,12 @@ use Rattle.work_queue.specs.declared.queue.Told.{Told}
 use Rattle.work_queue.specs.declared.queue.Told.TheVariants as told
 use Rattle.work_queue.specs.declared.queue.Load.{Load}
 use Rattle.work_queue.specs.declared.queue.Load.TheVariants as load
-use Rattle.work_queue.specs.States.{State, Task, reader, task_at, answer_to, is_kept, is_short}
+use Rattle.work_queue.specs.States.{State, Task, Held, reader, task_at, held, is_cancelled}
+use Rattle.work_queue.specs.States.{answer_to, is_kept, is_short}
 use Rattle.work_queue.specs.States.{Read, read_in, heard_in, heard_by, begun_by, has_some, FirstIs, ComesOut}
 use Rattle.work_queue.proofs.Sided.{Called, called, read_on, still_read, now_roomed, now_heard, now_taken}
-use Rattle.work_queue.proofs.Sided.{still_there, now_cancelled, begun_on, still_begun, answer_begun, take_begun}
+use Rattle.work_queue.proofs.Sided.{begun_on, still_begun, answer_begun, take_begun}
+use Rattle.work_queue.proofs.Sided.{hand_on, still_hand, cancelled_on, still_cancelled, now_cancelled}
 use Rattle.work_lanes.specs.Calls.{after_all, GivesNone, HasRoom, HearsMore, HasHeard, HasTaken, HasBegun, InHand}
 use Rattle.work_lanes.specs.Calls.{is_open, done_by}
 
@@ -248,28 +250,40 @@ module _ {X Y : Type 0} (number : X → ℤ) (cancels : X → Bool) where
       take_begun number cancels lane seen seen' r asked some.0
       (subst (λ (x : Puts X). Tells lane seen ask.Take r x seen') some.1 k)
 
-  marked_so : (lane : ℕ) (seen seen' : History X Y) (r : Told) (good : Puts X) (t : Task X)
-      → task_at lane (After seen').hands ≡ Some t
-      → Tells lane seen ask.IsCancelled r good seen' → is_open r ≡ true → t.work.cancelled ≡ true
-  marked_so lane seen seen' told.Open good t at k e =
-      now_cancelled number cancels lane seen seen' told.Open good t refl at k
-  marked_so lane seen seen' told.Done good t at k e = absurd (false_not_true e)
-  marked_so lane seen seen' told.Idle good t at k e = absurd (false_not_true e)
-  marked_so lane seen seen' told.Closed good t at k e = absurd (false_not_true e)
+  -- ---- a look at what the lane has in hand
 
-  pub look_so : (lane : ℕ) (seen seen' : History X Y) (m : X) (r : Told) (good : Puts X)
-      (was : Bool) → InHand lane m was false (After seen)
-      → Tells lane seen ask.IsCancelled r good seen'
-      → InHand lane m was (is_open r) (After seen')
-  look_so lane seen seen' m r good was hand k =
-      let st = still_there number cancels lane seen seen' ask.IsCancelled r good hand.task refl
-      hand.here k in record {
-        task = st.0;
-        here = st.1;
-        is = st.2.0 ∙ hand.is;
-        begun = st.2.2 ∙ hand.begun;
-        marked = marked_so lane seen seen' r good st.0 st.1 k;
-      }
+  abbrev Hand : ℕ → History X Y → Option (Held X)
+  Hand lane h = held (task_at lane (After h).hands)
+
+  abbrev Raised : ℕ → History X Y → Type 0
+  Raised lane h = is_cancelled (task_at lane (After h).hands) ≡ true
+
+  pub look_hand : (lane : ℕ) (seen seen' : History X Y) (r : Told) (good : Puts X)
+      → Tells lane seen ask.IsCancelled r good seen' → Hand lane seen' ≡ Hand lane seen
+  look_hand lane seen seen' r good k =
+      still_hand number cancels lane seen seen' ask.IsCancelled r good refl k
+
+  pub refused_hand : (lane : ℕ) (seen seen' : History X Y) → GoesOn lane seen seen'
+      → Hand lane seen' ≡ Hand lane seen
+  refused_hand lane seen seen' on = hand_on number cancels lane seen seen' on
+
+  pub look_stays : (lane : ℕ) (seen seen' : History X Y) (r : Told) (good : Puts X)
+      → Tells lane seen ask.IsCancelled r good seen' → Raised lane seen → Raised lane seen'
+  look_stays lane seen seen' r good k was =
+      still_cancelled number cancels lane seen seen' ask.IsCancelled r good refl k was
+
+  pub refused_stays : (lane : ℕ) (seen seen' : History X Y) → GoesOn lane seen seen'
+      → Raised lane seen → Raised lane seen'
+  refused_stays lane seen seen' on was = cancelled_on number cancels lane seen seen' on was
+
+  -- where the queue says so it was cancelled
+  pub look_raised : (lane : ℕ) (seen seen' : History X Y) (r : Told) (good : Puts X)
+      → Tells lane seen ask.IsCancelled r good seen' → is_open r ≡ true → Raised lane seen'
+  look_raised lane seen seen' told.Open good k e =
+      now_cancelled number cancels lane seen seen' told.Open good refl k
+  look_raised lane seen seen' told.Done good k e = absurd (false_not_true e)
+  look_raised lane seen seen' told.Idle good k e = absurd (false_not_true e)
+  look_raised lane seen seen' told.Closed good k e = absurd (false_not_true e)
 
   pub came_so : (lane : ℕ) (seen seen' : History X Y) (r : Told) (good : Puts X)
       (o : Option (Asked X))

@@ -20,7 +20,6 @@ use Rattle.work_queue.proofs.Sided.{read_on, begun_on}
 use Rattle.work_lanes.specs.declared.reading.Reader.{Reader}
 use Rattle.work_lanes.specs.declared.reading.ReaderLeft.{ReaderLeft}
 use Rattle.work_lanes.specs.declared.handling.Hands.{Hands}
-use Rattle.work_lanes.specs.declared.handling.HandsLeft.{HandsLeft}
 use Rattle.work_lanes.specs.Calls.{after_all, read_at, begun_at}
 use Rattle.work_lanes.specs.Handles.{Follows, EachFollows}
 use Rattle.work_lanes.specs.Crews.{AreHands, AreLanes, handlers_in}
@@ -100,15 +99,15 @@ module _ {X Y M G Q : Type 0} {g : Ghosts M (Ask X Y) Told G Q} {T H : Type 0} w
 
   module _ (number : X → ℤ) (cancels : X → Bool)
       (reads : FactOfRun (Reader T) (ReaderLeft T) (LanePass g))
-      (works : FactOfRun (Hands H) (HandsLeft H) (LanePass g))
+      (works : FactOfRun (Hands H) H (LanePass g))
       (read_keeps : (r : Reader T) (p : LanePass g) (e : ReaderLeft T) (p' : LanePass g)
       → reads r p e p' → IsSamePass p p')
-      (work_keeps : (h : Hands H) (p : LanePass g) (e : HandsLeft H) (p' : LanePass g)
+      (work_keeps : (h : Hands H) (p : LanePass g) (e : H) (p' : LanePass g)
       → works h p e p' → IsSamePass p p')
       (answers : H → X → Y → H → Type 0) (breaks : H → X → H → Type 0)
-      (work_follows : (h : Hands H) (p : LanePass g) (e : HandsLeft H) (p' : LanePass g)
+      (work_follows : (h : Hands H) (p : LanePass g) (e : H) (p' : LanePass g)
       → works h p e p'
-      → Follows answers breaks h.handler (begun_at number cancels p') e.handler) where
+      → Follows answers breaks h.handler (begun_at number cancels p') e) where
     pub lanes_keep : KeepsPasses (HasRunOfKind reads works)
     lanes_keep (First r) p (First e) p' h = read_keeps r p e p' h
     lanes_keep (First r) p (Second e) p' h = absurd h
@@ -127,7 +126,7 @@ module _ {X Y M G Q : Type 0} {g : Ghosts M (Ask X Y) Told G Q} {T H : Type 0} w
       pub read : read_in (after_all number cancels h) ≡ read_at number cancels after
 
     first_ends : (q : Q) (input : T) (depth : ℕ) (h : List (LaneEntry X Y)) (r : Reader T)
-        (e : Either (ReaderLeft T) (HandsLeft H)) → r.input ≡ input → r.depth ≡ depth
+        (e : Either (ReaderLeft T) H) → r.input ≡ input → r.depth ≡ depth
         → LaneEnds (HasRunOfKind reads works) q h 0 (First r) e
         → (left : ReaderLeft T) × (e ≡ First left) × ReaderEnds input depth h left
     first_ends q input depth h r (Second e) is deep x = absurd x.ran
@@ -147,13 +146,13 @@ module _ {X Y M G Q : Type 0} {g : Ghosts M (Ask X Y) Told G Q} {T H : Type 0} w
     )
 
     -- what one handler has done
-    hand_ends : (q : Q) (k : ℕ) (h : List (LaneEntry X Y)) (w : Hands H) (left : HandsLeft H)
+    hand_ends : (q : Q) (k : ℕ) (h : List (LaneEntry X Y)) (w : Hands H) (left : H)
         → LaneEnds (HasRunOfKind reads works) q h k (Second w) (Second left)
         → Follows answers breaks w.handler (begun_by k (after_all number cancels h).taken)
-        left.handler
+        left
     hand_ends q k h w left x =
         follows_on answers breaks w.handler (begun_at number cancels x.after)
-        (begun_by k (after_all number cancels h).taken) left.handler
+        (begun_by k (after_all number cancels h).taken) left
         (all_begun number cancels h (seen x.after) (mine x.after) k x.after.lane
         (x.same.1 ∙ x.number) x.saw x.after.idle.3 x.made)
         (work_follows w x.before left x.after x.ran)
@@ -161,7 +160,7 @@ module _ {X Y M G Q : Type 0} {g : Ghosts M (Ask X Y) Told G Q} {T H : Type 0} w
     -- and each of them, in order from the number k on
     hands_end : (q : Q) (k : ℕ) (h : List (LaneEntry X Y)) (xs : List H)
         (lanes : List (Either (Reader T) (Hands H)))
-        (ends : List (Either (ReaderLeft T) (HandsLeft H)))
+        (ends : List (Either (ReaderLeft T) H))
         → AreHands k xs lanes → EachLane (HasRunOfKind reads works) q h k lanes ends
         → EachFollows answers breaks k (after_all number cancels h).taken xs (handlers_in ends)
         × (length ends ≡ length xs)
@@ -176,7 +175,7 @@ module _ {X Y M G Q : Type 0} {g : Ghosts M (Ask X Y) Told G Q} {T H : Type 0} w
         let rest = hands_end q (k + 1) h ys lanes ends a.2 x.1 in (
           (
             subst (λ (o : H). Follows answers breaks o
-                (begun_by k (after_all number cancels h).taken) left.handler) a.1
+                (begun_by k (after_all number cancels h).taken) left) a.1
                 (hand_ends q k h w left x.0),
             rest.0,
           ),
@@ -185,9 +184,9 @@ module _ {X Y M G Q : Type 0} {g : Ghosts M (Ask X Y) Told G Q} {T H : Type 0} w
 
     pub crew_ends : (q : Q) (input : T) (depth : ℕ) (xs : List H) (h : List (LaneEntry X Y))
         (lanes : List (Either (Reader T) (Hands H)))
-        (ends : List (Either (ReaderLeft T) (HandsLeft H)))
+        (ends : List (Either (ReaderLeft T) H))
         → AreLanes input depth xs lanes → EachLane (HasRunOfKind reads works) q h 0 lanes ends
-        → (left : ReaderLeft T) × (rest : List (Either (ReaderLeft T) (HandsLeft H)))
+        → (left : ReaderLeft T) × (rest : List (Either (ReaderLeft T) H))
         × (ends ≡ First left ∷ rest) × ReaderEnds input depth h left
         × EachFollows answers breaks 1 (after_all number cancels h).taken xs (handlers_in rest)
         × (length rest ≡ length xs)
@@ -199,7 +198,7 @@ module _ {X Y M G Q : Type 0} {g : Ghosts M (Ask X Y) Told G Q} {T H : Type 0} w
         let w = hands_end q 1 h xs lanes ends a.2 x.1 in (
           f.0,
           ends,
-          ap (λ (y : Either (ReaderLeft T) (HandsLeft H)). y ∷ ends) f.1,
+          ap (λ (y : Either (ReaderLeft T) H). y ∷ ends) f.1,
           f.2,
           w.0,
           w.1,

@@ -27,7 +27,6 @@ use Rattle.work_queue.proofs.Sided.{taken_below}
 use Rattle.work_lanes.specs.declared.reading.Reader.{Reader}
 use Rattle.work_lanes.specs.declared.reading.ReaderLeft.{ReaderLeft}
 use Rattle.work_lanes.specs.declared.handling.Hands.{Hands}
-use Rattle.work_lanes.specs.declared.handling.HandsLeft.{HandsLeft}
 use Rattle.work_lanes.specs.Calls.{after_all, heard_at, most_at, begun_at}
 use Rattle.work_lanes.specs.Handles.{Follows, EachFollows}
 use Rattle.work_lanes.specs.Serves.{HasRead, piece}
@@ -49,7 +48,7 @@ same_start {O} {X} {Y} {K} m m' start e is =
     ap (λ (q : Start O). value_or start q.sink) e ∙ is
 
 abbrev LeftOf : Type 0 → Type 0 → Type 0
-LeftOf T H = Either (ReaderLeft T) (HandsLeft H)
+LeftOf T H = Either (ReaderLeft T) H
 
 module _ {T H : Type 0} where
   abbrev left_or : ReaderLeft T → List (LeftOf T H) → ReaderLeft T
@@ -64,7 +63,7 @@ module _ {T H : Type 0} where
   pub some_end : (left : ReaderLeft T) (rest : List (LeftOf T H)) → First left ∷ rest ≡ [] → ⊥
   some_end left rest e = cc
 
-  pub never_second : (left : ReaderLeft T) (other : HandsLeft H) (rest rest' : List (LeftOf T H))
+  pub never_second : (left : ReaderLeft T) (other : H) (rest rest' : List (LeftOf T H))
       → First left ∷ rest ≡ Second other ∷ rest' → ⊥
   never_second left other rest rest' e = cc
 
@@ -77,22 +76,22 @@ module _ {X Y M G Q : Type 0} {g : Ghosts M (Ask X Y) Told G Q} (number : X → 
       × (most_at number cancels p' ≤ r.depth + piece)
 
   abbrev pub WorksSo : {H : Type 0} → (H → X → Y → H → Type 0) → (H → X → H → Type 0)
-      → FactOfRun (Hands H) (HandsLeft H) (LanePass g)
+      → FactOfRun (Hands H) H (LanePass g)
   WorksSo answers breaks h p e p' = IsSamePass p p'
-      × Follows answers breaks h.handler (begun_at number cancels p') e.handler
+      × Follows answers breaks h.handler (begun_at number cancels p') e
 
 module _ {X Y M G Q : Type 0} {g : Ghosts M (Ask X Y) Told G Q} {T H : Type 0} (number : X → ℤ)
     (cancels : X → Bool) (f : Framing) (spells : List ℕ → X → Type 0) (tap : T → TapTold)
     (answers : H → X → Y → H → Type 0) (breaks : H → X → H → Type 0) where
-  abbrev Runs : FactOfRun (Either (Reader T) (Hands H)) (Either (ReaderLeft T) (HandsLeft H))
+  abbrev Runs : FactOfRun (Either (Reader T) (Hands H)) (Either (ReaderLeft T) H)
       (LanePass g)
   Runs = HasRunOfKind (ReadsSo {g = g} number cancels f spells tap)
       (WorksSo {g = g} number cancels answers breaks)
 
   pub the_crew : (q : Q) (input : T) (depth : ℕ) (xs : List H) (h : List (LaneEntry X Y))
-      (lanes : LanesOf T H) (ends : List (Either (ReaderLeft T) (HandsLeft H))) → AreLanes input depth xs lanes
+      (lanes : LanesOf T H) (ends : List (Either (ReaderLeft T) H)) → AreLanes input depth xs lanes
       → EachLane Runs q h 0 lanes ends
-      → (left : ReaderLeft T) × (rest : List (Either (ReaderLeft T) (HandsLeft H)))
+      → (left : ReaderLeft T) × (rest : List (Either (ReaderLeft T) H))
       × (ends ≡ First left ∷ rest)
       × ReaderEnds number cancels (ReadsSo {g = g} number cancels f spells tap)
       (WorksSo {g = g} number cancels answers breaks) (λ r p e p' h. h.0) (λ w p e p' h. h.0)
@@ -120,7 +119,7 @@ module _ {X Y M G Q : Type 0} (g : Ghosts M (Ask X Y) Told G Q) {T H O K : Type 
     (f : Framing) (spells : List ℕ → X → Type 0) (tap : T → TapTold) (told_of : O → SinkTold)
     (answers : H → X → Y → H → Type 0) (breaks : H → X → H → Type 0) where
   pub serves : (q : Q) (input : T) (depth : ℕ) (xs : List H) (h : List (LaneEntry X Y))
-      (lanes : LanesOf T H) (ends rest : List (Either (ReaderLeft T) (HandsLeft H))) (news : List H)
+      (lanes : LanesOf T H) (ends rest : List (Either (ReaderLeft T) H)) (news : List H)
       (m : WorkQueue O X Y K) (how : How) (sink start : O) (left : ReaderLeft T)
       → AreLanes input depth xs lanes
       → EachLane (HasRunOfKind (ReadsSo {g = g} number cancels f spells tap)

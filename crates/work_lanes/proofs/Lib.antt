@@ -5,5 +5,6 @@ pub mod Ends
 pub mod Following
 pub mod Crewing
 pub mod Calling
+pub mod Lending
 pub mod Leaving
 pub mod Idle

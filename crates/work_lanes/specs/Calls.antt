@@ -1,11 +1,12 @@
 -- What the calls of the lanes say of the queue's state.
 use Rattle.std.specs.Prelude.{◌≡◌, ℕ, ℤ, ◌+◌, ◌≤◌, max, Bool, true, false, List, [], ◌∷◌, ◌++◌}
 use Rattle.std.specs.Prelude.{length, Option, Some, None, Result, Ok, Err}
+use Rattle.atomic_table.specs.Seated.{TableId}
 use Rattle.plain_values.specs.declared.no_memory.NoMemory.{NoMemory}
 use Rattle.seat_desk.specs.declared.machine.Machine.{Ghosts}
 use Rattle.seat_desk.specs.declared.desk.Pass.{Pass}
 use Rattle.plain_values.specs.declared.entry.Entry.{Entry}
-use Rattle.seat_desk.specs.Passes.{seen}
+use Rattle.seat_desk.specs.Passes.{seen, basis}
 use Rattle.work_queue.specs.declared.queue.Ask.{Ask}
 use Rattle.work_queue.specs.declared.queue.Ask.TheVariants as ask
 use Rattle.work_queue.specs.declared.queue.Told.{Told}
@@ -13,9 +14,19 @@ use Rattle.work_queue.specs.declared.queue.Told.TheVariants as told
 use Rattle.work_queue.specs.declared.queue.Load.{Load}
 use Rattle.work_queue.specs.declared.queue.Load.TheVariants as load
 use Rattle.work_queue.specs.declared.rows.Asked.{Asked}
-use Rattle.work_queue.specs.States.{State, Task, state_of, task_at, begun_by, unless, is_kept}
+use Rattle.work_queue.specs.States.{State, Task, Held, state_of, task_at, held, is_cancelled, begun_by}
+use Rattle.work_queue.specs.States.{unless, is_kept}
 use Rattle.work_queue.specs.States.{Read, read_in, roomed_in}
 use Rattle.std.proofs.Common.{refl}
+
+-- What a look at a lane's flag doesn't change: the lane and its desk, what the lane has begun, and
+-- what it has in hand.
+pub record Owner (X Q : Type 0) : Type 0 where
+  pub desk : TableId
+  pub lane : ℕ
+  pub basis : Q
+  pub begun : List X
+  pub hand : Option (Held X)
 
 module _ {X Y : Type 0} (number : X → ℤ) (cancels : X → Bool) where
   -- the queue after a history
@@ -42,6 +53,20 @@ module _ {X Y : Type 0} (number : X → ℤ) (cancels : X → Bool) where
     -- the requests that the lane had begun then, in order, but for those that were cancelled before
     abbrev pub begun_at : Pass M (Ask X Y) Told G Q g → List X
     begun_at p = begun_by p.lane (state_at p).taken
+
+    -- whose pass it is
+    abbrev pub owner_at : Pass M (Ask X Y) Told G Q g → Owner X Q
+    owner_at p = record {
+      desk = p.seat.table_id;
+      lane = p.lane;
+      basis = basis p;
+      begun = begun_at p;
+      hand = held (task_at p.lane (state_at p).hands);
+    }
+
+    -- whether what the lane has in hand was cancelled by then
+    abbrev pub raised_at : Pass M (Ask X Y) Told G Q g → Bool
+    raised_at p = is_cancelled (task_at p.lane (state_at p).hands)
 
 -- a reply that says that there is nothing for the lane now
 abbrev pub is_idle : Told → Bool
@@ -97,10 +122,6 @@ module _ {X Y : Type 0} where
   HasTaken lane (Ok (Some w)) s = InHand lane w.request w.cancelled w.cancelled s
   HasTaken lane (Ok None) s = Unit {0}
   HasTaken lane (Err e) s = Unit {0}
-
-  abbrev pub HasLooked : ℕ → X → Bool → Result Bool NoMemory → State X Y → Type 0
-  HasLooked lane m was (Ok b) s = InHand lane m was b s
-  HasLooked lane m was (Err e) s = Unit {0}
 
 -- what a lane had begun, and what it has begun behind a Take
 abbrev pub HasBegun : {X : Type 0} → Result (Option (Asked X)) NoMemory → List X → List X → Type 0

@@ -9,7 +9,6 @@ use Rattle.work_queue.specs.declared.queue.How.TheVariants as how
 use Rattle.work_lanes.specs.declared.reading.Reader.{Reader}
 use Rattle.work_lanes.specs.declared.reading.ReaderLeft.{ReaderLeft}
 use Rattle.work_lanes.specs.declared.handling.Hands.{Hands}
-use Rattle.work_lanes.specs.declared.handling.HandsLeft.{HandsLeft}
 
 abbrev pub finish_by : How → Finish → Finish
 finish_by how.Failed f = finish.OutputFault
@@ -45,12 +44,12 @@ module _ {T H : Type 0} where
   handlers_held (Second hands ∷ lanes) = hands.handler ∷ handlers_held lanes
 
   -- the handlers that lanes have left
-  abbrev pub handlers_in : List (Either (ReaderLeft T) (HandsLeft H)) → List H
+  abbrev pub handlers_in : List (Either (ReaderLeft T) H) → List H
   handlers_in [] = []
   handlers_in (First left ∷ ends) = handlers_in ends
-  handlers_in (Second left ∷ ends) = left.handler ∷ handlers_in ends
+  handlers_in (Second handler ∷ ends) = handler ∷ handlers_in ends
 
   -- the reader's end stands first
-  abbrev pub HasReaderFirst : List (Either (ReaderLeft T) (HandsLeft H)) → Type 0
-  HasReaderFirst ends = (left : ReaderLeft T) × (rest : List (Either (ReaderLeft T) (HandsLeft H)))
+  abbrev pub HasReaderFirst : List (Either (ReaderLeft T) H) → Type 0
+  HasReaderFirst ends = (left : ReaderLeft T) × (rest : List (Either (ReaderLeft T) H))
       × (ends ≡ First left ∷ rest)

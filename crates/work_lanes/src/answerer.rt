@@ -3,18 +3,19 @@ ghost use Rattle.std.specs.Prelude.{◌≡◌, List, ℕ, true, false, IfOk, OnE
 ghost use Rattle.json_framing.specs.declared.cutter.Framing.{Framing};
 ghost use Rattle.message_service.specs.Stream.{ReadsFrame};
 
+use crate::flag::Flag;
 use json_framing::Framing;
 use plain_values::NoMemory;
 use std::alloc::Global;
 use std::sync::Wait;
-use work_queue::{CancelFlag, Kind};
+use work_queue::Kind;
 
 /// What was made of a request.
 #[derive(Drop)]
 pub struct Made<Y> {
     pub response: Y,
-    /// The work was left unfinished, since the request was cancelled. The response isn't put: where
-    /// a cancel request was read behind it, the request is given up, and else all lanes end.
+    /// The work was left unfinished, since the request was cancelled. The request is given up, and the
+    /// response isn't put.
     pub stopped: bool,
 }
 
@@ -53,19 +54,20 @@ pub trait Answerer<X, Y>: Kind<X, Y> + Drop {
     fn write(alloc: Global, response: &Y) -> Result<Vec<u8>, NoMemory>
         ensures { IfOk result (λ bytes. bytes.items ≡ Self.written response.now) };
 
-    /// Does what a request asks. The flag says whether it was cancelled meanwhile; who looks at it
-    /// may stop early and say so.
+    /// Does what a request asks. It may stop early and report so if it has seen the flag raised.
     ///
     /// # Errors
     ///
     /// `NoMemory`, and then all lanes end.
-    fn answer<R: Wait>(
+    fn answer<R: Wait, F: Flag>(
         &mut self,
         rt: &R,
         alloc: Global,
         request: &X,
-        flag: &CancelFlag,
+        flag: &mut F,
     ) -> Result<Made<Y>, NoMemory>
+        ensures same { F.owner flag.new ≡ F.owner flag.old }
+        ensures stops { IfOk result (λ made. made.stopped ≡ true → F.raised flag.new ≡ true) }
         ensures says { IfOk result (λ made. made.stopped ≡ false
             → Self.says request.now false made.response) }
         ensures answers { IfOk result (λ made.

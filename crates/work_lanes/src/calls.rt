@@ -1,11 +1,11 @@
 // The calls of the lanes.
-ghost use Rattle.std.specs.Prelude.{◌≡◌, true, false, Some, IfSome, IfNone};
+ghost use Rattle.std.specs.Prelude.{◌≡◌, true, Some, IfOk, IfSome, IfNone};
 ghost use Rattle.seat_desk.specs.Passes.{IsSamePass};
 ghost use Rattle.work_queue.specs.declared.queue.Ask.TheVariants as ask;
 ghost use Rattle.work_queue.specs.declared.queue.Told.TheVariants as told;
 ghost use Rattle.work_queue.specs.declared.queue.Load.TheVariants as load;
 ghost use Rattle.work_queue.specs.States.{reader};
-ghost use Rattle.work_lanes.specs.Calls.{state_at, heard_at, read_at, most_at, begun_at, is_idle, is_open, done_by, idle_not_kept, InHand, GivesNone, HasRoom, HearsMore, HasHeard, HasTaken, HasBegun, HasLooked};
+ghost use Rattle.work_lanes.specs.Calls.{state_at, heard_at, read_at, most_at, begun_at, owner_at, raised_at, is_idle, is_open, done_by, idle_not_kept, InHand, GivesNone, HasRoom, HearsMore, HasHeard, HasTaken, HasBegun};
 
 use lane_crew::{Caller, Question};
 use outside::Sink;
@@ -193,23 +193,21 @@ pub(crate) fn take<O: Sink, X: Drop, Y: Drop, K: Kind<X, Y>, R: Wait>(
     }
 }
 
-/// Whether the request that the lane has in hand was cancelled.
+/// Returns true if the request that the lane has in hand was cancelled.
 ///
 /// # Errors
 ///
-/// `NoMemory`.
+/// Returns `NoMemory` if memory runs out.
 pub(crate) fn is_cancelled<O: Sink, X: Drop, Y: Drop, K: Kind<X, Y>, R: Wait>(
     rt: &R,
     caller: &mut Caller<WorkQueue<O, X, Y, K>>,
-    request: &X,
 ) -> Result<bool, NoMemory>
-    requires hand { InHand caller.old.pass.lane request.now false false
-        (state_at K.number K.cancels caller.old.pass) }
-    ensures same { IsSamePass caller.old.pass caller.new.pass }
-    ensures begun { begun_at K.number K.cancels caller.new.pass
-        ≡ begun_at K.number K.cancels caller.old.pass }
-    ensures looked { HasLooked caller.new.pass.lane request.now false result
-        (state_at K.number K.cancels caller.new.pass) }
+    ensures same { owner_at K.number K.cancels caller.new.pass
+        ≡ owner_at K.number K.cancels caller.old.pass }
+    ensures stays { raised_at K.number K.cancels caller.old.pass ≡ true
+        → raised_at K.number K.cancels caller.new.pass ≡ true }
+    ensures raised { IfOk result (λ yes. yes ≡ true
+        → raised_at K.number K.cancels caller.new.pass ≡ true) }
 {
     match caller.call(rt, Ask::IsCancelled, None) {
         Ok((reply, _)) => Ok(is_open(reply)),

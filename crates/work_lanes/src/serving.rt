@@ -7,7 +7,7 @@ ghost use Rattle.work_lanes.specs.Serves.{AreHandlers, IsDepth, ServesBy, told_b
 ghost use Rattle.work_lanes.specs.Crews.{AreLanes, HasReaderFirst, finish_by, handlers_in};
 
 use crate::answerer::Answerer;
-use crate::handling::{Hands, HandsLeft};
+use crate::handling::Hands;
 use crate::reading::{Reader, ReaderLeft};
 use crate::unbegun::{Unbegun, unbegun_of};
 use lane_crew::{Crew, Either, run_crew};
@@ -32,9 +32,6 @@ pub struct Streams<T, O> {
 pub struct LanesEnded<T, O, H> {
     /// Why all is over.
     pub finish: Finish,
-    /// A handler has stopped a request that wasn't cancelled. All lanes have ended for it, and then
-    /// `finish` says `NoMemory`, unless putting failed.
-    pub false_stop: bool,
     pub tap: T,
     pub sink: O,
     /// The handlers, in their order.
@@ -101,13 +98,11 @@ pub fn run_lanes<
     let Crew { machine, ends, .. } = crew;
     let mut ends = VecDeque::from_vec(ends);
     let ReaderLeft { input, finish } = reader_left(&mut ends);
-    let false_stop = has_false_stop(&ends);
     let handlers = handlers_left(ends, back);
     let (sink, how) = machine.into_end();
     let finish = finish_by(how, finish);
     Ok(LanesEnded {
         finish,
-        false_stop,
         tap: input,
         sink,
         handlers,
@@ -115,7 +110,7 @@ pub fn run_lanes<
 }
 
 /// What the lane that reads ends with, or one that answers.
-type WorkEnd<T, H> = Either<ReaderLeft<T>, HandsLeft<H>>;
+type WorkEnd<T, H> = Either<ReaderLeft<T>, H>;
 
 // What the reader's lane has left: it is the first of all.
 fn reader_left<T: Drop, H: Drop>(ends: &mut VecDeque<WorkEnd<T, H>>) -> ReaderLeft<T>
@@ -126,11 +121,6 @@ fn reader_left<T: Drop, H: Drop>(ends: &mut VecDeque<WorkEnd<T, H>>) -> ReaderLe
         Some(Either::First(left)) => left,
         Some(Either::Second(_)) | None => unreachable!(),
     }
-}
-
-// Returns true if one of the lanes ended because its handler had stopped a request that wasn't cancelled.
-fn has_false_stop<T: Drop, H: Drop>(ends: &VecDeque<WorkEnd<T, H>>) -> bool {
-    ends.iter().any(|end| matches!(end, Either::Second(left) if left.false_stop))
 }
 
 // The handlers that the other lanes have left, in this room.
@@ -144,7 +134,7 @@ fn handlers_left<T: Drop, H: Drop>(ends: VecDeque<WorkEnd<T, H>>, room: Vec<H>) 
     while let Some(end) = rest.pop_front() {
         match end {
             Either::First(reader) => drop(reader),
-            Either::Second(left) => handlers.push_reserved(left.into_handler()),
+            Either::Second(handler) => handlers.push_reserved(handler),
         }
     }
     handlers
@@ -226,14 +216,14 @@ fn lanes_of<T: Drop, H: Drop>(
     let mut rest = VecDeque::from_vec(handlers);
     let mut number = 1;
     while let Some(handler) = rest.pop_front() {
-        let Some(flag) = flags.pop_front() else {
+        let Some(hint) = flags.pop_front() else {
             unreachable!()
         };
         lanes.push_reserved(Either::Second(Hands {
             alloc,
             number,
             handler,
-            flag,
+            hint,
         }));
         number += 1;
     }

@@ -1,5 +1,5 @@
 -- What a lane knows of the queue as the history goes on.
-use Rattle.std.proofs.Common.{◌≡◌, ◌⊎◌, ℕ, ℤ, ◌==◌, ◌<◌, ◌≤◌, Bool, true, false, cond, List, [], ◌∷◌, ◌++◌, length}
+use Rattle.std.proofs.Common.{◌≡◌, ◌⊎◌, ℕ, ℤ, ◌==◌, ◌<◌, ◌≤◌, Bool, true, false, cond, List, [], ◌∷◌, ◌++◌, length, map}
 use Rattle.std.proofs.Common.{Option, Some, None, refl, ap, sym, ◌∙◌, subst, inl, inr, eq-eqb, append-nil}
 use Rattle.std.specs.List.{fold, AllByRecursion}
 use Rattle.std.proofs.lemmas.Bool.{cases_lt}
@@ -16,12 +16,13 @@ use Rattle.work_queue.specs.declared.queue.Told.{Told}
 use Rattle.work_queue.specs.declared.queue.Told.TheVariants as told
 use Rattle.work_queue.specs.declared.queue.Load.{Load}
 use Rattle.work_queue.specs.declared.queue.Load.TheVariants as load
-use Rattle.work_queue.specs.States.{State, Task, InHand, begun, begun_by, unless, reader, first}
+use Rattle.work_queue.specs.States.{State, Task, InHand, Held, held, begun, begun_by, unless, reader, first}
+use Rattle.work_queue.specs.States.{task_marked, in_hand_marked}
 use Rattle.work_queue.specs.States.{state_of, state_then, moved, heard_by, roomed}
 use Rattle.work_queue.specs.States.{Read, read_in, heard_in, roomed_in}
 use Rattle.work_queue.specs.States.{taken_by, answered_by, task_at, is_cancelled, has_some}
 use Rattle.work_queue.specs.States.{answer_to, is_kept, is_short, ComesOut, FirstIs}
-use Rattle.work_queue.specs.StateLaws.{HasStill, other_lane, on_from, rest_still}
+use Rattle.work_queue.specs.StateLaws.{HasStill, other_at, other_lane, on_from, rest_still}
 use Rattle.work_queue.proofs.Proper.{all_last}
 use Rattle.work_queue.proofs.Turning.{by_kept}
 
@@ -64,6 +65,19 @@ module _ {X : Type 0} where
   abbrev task_or : Task X → Option (Task X) → Task X
   task_or other None = other
   task_or other (Some t) = t
+
+  held_either : (b : Bool) (t t' : Task X) (o o' : Option (Task X)) → held (Some t') ≡ held (Some t)
+      → held o' ≡ held o → held (cond b (Some t') o') ≡ held (cond b (Some t) o)
+  held_either true t t' o o' here else = here
+  held_either false t t' o o' here else = else
+
+  -- a mark leaves what a lane has in hand
+  hand_marked : (number : X → ℤ) (lane : ℕ) (n : ℤ) (hs : List (InHand X))
+      → held (task_at lane (map (in_hand_marked number n) hs)) ≡ held (task_at lane hs)
+  hand_marked number lane n [] = refl
+  hand_marked number lane n (h ∷ hs) =
+      held_either (h.lane == lane) h.task (task_marked number n h.task) (task_at lane hs)
+      (task_at lane (map (in_hand_marked number n) hs)) refl (hand_marked number lane n hs)
 
 module _ {X Y : Type 0} (number : X → ℤ) (cancels : X → Bool) where
   abbrev At : List (Entry (Ask X Y) Told) → State X Y
@@ -225,6 +239,107 @@ module _ {X Y : Type 0} (number : X → ℤ) (cancels : X → Bool) where
       (moved number cancels (At k.point) lane c)
       (taken_answered lane (At k.point) about.value (task_at lane (At k.point).hands)))
       ∙ begun_on lane seen k.point k.on)
+
+  -- ---- what a lane has in hand
+
+  abbrev pub Hand : ℕ → State X Y → Option (Held X)
+  Hand lane s = held (task_at lane s.hands)
+
+  hand_heard : (lane : ℕ) (s : State X Y) (m : X) (b : Bool)
+      → Hand lane (heard_by number cancels s m b) ≡ Hand lane s
+  hand_heard lane s m true = hand_marked number lane (number m) s.hands
+  hand_heard lane s m false = refl
+
+  hand_either : (lane : ℕ) (b : Bool) (s s' : State X Y) → Hand lane s' ≡ Hand lane s
+      → Hand lane (cond b s' s) ≡ Hand lane s
+  hand_either lane true s s' e = e
+  hand_either lane false s s' e = refl
+
+  hand_taken : (lane other : ℕ) (s : State X Y) (ts : List (Task X)) → (other == lane) ≡ false
+      → Hand lane (taken_by other s ts) ≡ Hand lane s
+  hand_taken lane other s [] n = refl
+  hand_taken lane other s (t ∷ ts) n =
+      ap (λ (b : Bool). held (cond b (Some (begun (length s.heard) t)) (task_at lane s.hands))) n
+
+  hand_answered : (lane other : ℕ) (s : State X Y) (y : Y) (o : Option (Task X))
+      → (other == lane) ≡ false → Hand lane (answered_by other s y o) ≡ Hand lane s
+  hand_answered lane other s y None n = refl
+  hand_answered lane other s y (Some t) n =
+      ap (λ (x : Option (Task X)). held x) (other_at lane other s.hands n)
+
+  hand_step : (lane : ℕ) (s : State X Y) (other : ℕ) (c : Ask X Y) → (other == lane) ≡ false
+      → Hand lane (moved number cancels s other c) ≡ Hand lane s
+  hand_step lane s other (ask.Hear about) n =
+      hand_either lane (other == reader) s
+      (heard_by number cancels s about.value (cancels about.value))
+      (hand_heard lane s about.value (cancels about.value))
+  hand_step lane s other ask.Take n = hand_taken lane other s s.waiting n
+  hand_step lane s other (ask.Answer about) n =
+      hand_answered lane other s about.value (task_at other s.hands) n
+  hand_step lane s other (ask.Room depth) n =
+      hand_either lane (other == reader) s (roomed depth s) refl
+  hand_step lane s other ask.IsCancelled n = refl
+  hand_step lane s other ask.Close n = refl
+  hand_step lane s other ask.Halt n = refl
+
+  hand_rest : (lane : ℕ) (s : State X Y) (rest : List (Entry (Ask X Y) Told))
+      → calls_by lane rest ≡ [] → Hand lane (fold (state_then number cancels) s rest) ≡ Hand lane s
+  hand_rest lane s [] none = refl
+  hand_rest lane s (e ∷ es) none =
+      let o = other_lane number cancels lane e es none in
+      hand_rest lane (state_then number cancels s e) es o.1
+      ∙ hand_step lane s e.lane e.call o.0
+
+  -- what a lane has in hand stays while others call
+  pub hand_on : (lane : ℕ) (seen h : List (Entry (Ask X Y) Told)) → GoesOn lane seen h
+      → Hand lane (At h) ≡ Hand lane (At seen)
+  hand_on lane seen h on =
+      ap (λ (x : List (Entry (Ask X Y) Told)). Hand lane (At x)) on.1
+      ∙ (ap (λ (s : State X Y). Hand lane s) (on_from number cancels seen on.0)
+      ∙ hand_rest lane (At seen) on.0 on.2)
+
+  -- and with a call of its own that isn't kept
+  pub still_hand : (lane : ℕ) (seen seen' : List (Entry (Ask X Y) Told)) (call : Ask X Y)
+      (reply : Told) (good : Option (Load X)) → is_kept call reply ≡ false
+      → Called lane seen call reply good seen' → Hand lane (At seen') ≡ Hand lane (At seen)
+  still_hand lane seen seen' call reply good not k =
+      ap (λ (s : State X Y). Hand lane s) k.left
+      ∙ (ap (λ (b : Bool). Hand lane (cond b (moved number cancels (At k.point) lane call)
+      (At k.point))) not ∙ hand_on lane seen k.point k.on)
+
+  abbrev Cancelled : ℕ → State X Y → Type 0
+  Cancelled lane s = is_cancelled (task_at lane s.hands) ≡ true
+
+  cancelled_some : (lane : ℕ) (s s' : State X Y) (o : Option (Task X)) → task_at lane s.hands ≡ o
+      → ((t : Task X) → task_at lane s.hands ≡ Some t → HasStill lane t s'.hands)
+      → Cancelled lane s → Cancelled lane s'
+  cancelled_some lane s s' None at still c =
+      absurd (false_not_true (ap (λ (x : Option (Task X)). is_cancelled x) (sym at) ∙ c))
+  cancelled_some lane s s' (Some t) at still c =
+      let st = still t at in
+      ap (λ (x : Option (Task X)). is_cancelled x) st.1
+      ∙ st.2.1 (ap (λ (x : Option (Task X)). is_cancelled x) (sym at) ∙ c)
+
+  -- and it stays cancelled
+  pub cancelled_on : (lane : ℕ) (seen h : List (Entry (Ask X Y) Told)) → GoesOn lane seen h
+      → Cancelled lane (At seen) → Cancelled lane (At h)
+  cancelled_on lane seen h on =
+      let rest = fold (state_then number cancels) (At seen) on.0 in
+      let same : At h ≡ rest = ap (λ (x : List (Entry (Ask X Y) Told)). At x) on.1
+      ∙ on_from number cancels seen on.0 in
+      subst (λ (s : State X Y). Cancelled lane (At seen) → Cancelled lane s) (sym same)
+      (cancelled_some lane (At seen) rest (task_at lane (At seen).hands) refl
+      (λ t at. rest_still number cancels (At seen) on.0 lane t on.2 at))
+
+  pub still_cancelled : (lane : ℕ) (seen seen' : List (Entry (Ask X Y) Told)) (call : Ask X Y)
+      (reply : Told) (good : Option (Load X)) → is_kept call reply ≡ false
+      → Called lane seen call reply good seen' → Cancelled lane (At seen)
+      → Cancelled lane (At seen')
+  still_cancelled lane seen seen' call reply good not k c =
+      let same : At seen' ≡ At k.point = k.left
+      ∙ ap (λ (b : Bool). cond b (moved number cancels (At k.point) lane call) (At k.point)) not in
+      subst (λ (s : State X Y). Cancelled lane s) (sym same)
+      (cancelled_on lane seen k.point k.on c)
 
   -- ---- who has taken something
 
@@ -391,19 +506,6 @@ module _ {X Y : Type 0} (number : X → ℤ) (cancels : X → Bool) where
       (subst (λ (x : Told). ComesOut p ask.Take x (Some (load.Task w))) is k.comes)
       ∙ ap (λ (xs : List X). xs ++ unless w.cancelled w.request) (begun_on lane seen k.point k.on))
 
-  -- a question leaves in the lane's hand what it has there
-  pub still_there : (lane : ℕ) (seen seen' : List (Entry (Ask X Y) Told)) (call : Ask X Y)
-      (r : Told) (good : Option (Load X)) (t : Task X) → is_kept call r ≡ false
-      → task_at lane (At seen).hands ≡ Some t → Called lane seen call r good seen'
-      → HasStill lane t (At seen').hands
-  still_there lane seen seen' call r good t not here k =
-      let same : At seen' ≡ At k.point = k.left
-      ∙ ap (λ (b : Bool). cond b (moved number cancels (At k.point) lane call) (At k.point)) not in
-      let rest = rest_still number cancels (At seen) k.on.0 lane t k.on.2 here in
-      subst (λ (s : State X Y). HasStill lane t s.hands)
-      (sym (same ∙ (ap (λ (h : List (Entry (Ask X Y) Told)). At h) k.on.1
-      ∙ on_from number cancels seen k.on.0))) rest
-
   open_reply : (s : State X Y) (lane : ℕ) (r : Told) → r ≡ told.Open
       → (r ≡ answer_to s lane ask.IsCancelled) ⊎ (is_short r ≡ true)
       → is_cancelled (task_at lane s.hands) ≡ true
@@ -411,14 +513,11 @@ module _ {X Y : Type 0} (number : X → ℤ) (cancels : X → Bool) where
   open_reply s lane r is (inr e) =
       absurd (false_not_true (ap is_short (sym is) ∙ e))
 
-  -- what the lane has in hand was cancelled
+  -- the lane was told that what it has in hand was cancelled
   pub now_cancelled : (lane : ℕ) (seen seen' : List (Entry (Ask X Y) Told)) (r : Told)
-      (good : Option (Load X)) (t : Task X) → r ≡ told.Open
-      → task_at lane (At seen').hands ≡ Some t
-      → Called lane seen ask.IsCancelled r good seen' → t.work.cancelled ≡ true
-  now_cancelled lane seen seen' r good t is here k =
-      let o = open_reply (At k.point) lane r is k.is in
-      let same : At seen' ≡ At k.point = k.left in
-      let at : task_at lane (At k.point).hands ≡ Some t =
-      ap (λ (s : State X Y). task_at lane s.hands) (sym same) ∙ here in
-      ap (λ (x : Option (Task X)). is_cancelled x) (sym at) ∙ o
+      (good : Option (Load X)) → r ≡ told.Open
+      → Called lane seen ask.IsCancelled r good seen'
+      → is_cancelled (task_at lane (At seen').hands) ≡ true
+  now_cancelled lane seen seen' r good is k =
+      ap (λ (s : State X Y). is_cancelled (task_at lane s.hands)) k.left
+      ∙ open_reply (At k.point) lane r is k.is

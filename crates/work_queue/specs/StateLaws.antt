@@ -176,7 +176,7 @@ module _ {X : Type 0} where
   some_or other (Some t) = t
   some_or other None = other
 
-  other_at : (lane other : ℕ) (hs : List (InHand X)) → (other == lane) ≡ false
+  pub other_at : (lane other : ℕ) (hs : List (InHand X)) → (other == lane) ≡ false
       → task_at lane (hands_without other hs) ≡ task_at lane hs
   other_at lane other [] n = refl
   other_at lane other (h ∷ hs) n = dite (ℕ_discrete h.lane other)

@@ -34,6 +34,12 @@ pub record InHand (X : Type 0) : Type 0 where
   pub lane : ℕ
   pub task : Task X
 
+-- What stays the same of a request while a lane has it in hand: the request, and whether it was
+-- cancelled by the time that the lane began it.
+pub record Held (X : Type 0) : Type 0 where
+  pub request : X
+  pub was : Bool
+
 -- what was answered to the request at this place, and how many were heard when it was begun
 pub record Reply (Y : Type 0) : Type 0 where
   pub place : ℕ
@@ -109,6 +115,10 @@ module _ {X : Type 0} where
   abbrev pub is_cancelled : Option (Task X) → Bool
   is_cancelled None = false
   is_cancelled (Some t) = t.work.cancelled
+
+  abbrev pub held : Option (Task X) → Option (Held X)
+  held None = None
+  held (Some t) = Some (record { request = t.work.request; was = t.was })
 
   abbrev pub has_some : List (Task X) → Told
   has_some [] = told.Idle

@@ -21,7 +21,6 @@ finish_of kit_end.BadFrame = finish.BadInput
 finish_of kit_end.Long = finish.TooLong
 finish_of kit_end.SinkFault = finish.OutputFault
 finish_of kit_end.NoMemory = finish.NoMemory
-finish_of kit_end.FalseStop = finish.NoMemory
 
 -- The bytes taken spell these requests. What was put are these responses, each whole, one after
 -- another. Each is said to the request at its place, under its number: what it was answered, or

@@ -20,18 +20,14 @@ pub enum KitEnd {
     SinkFault,
     /// Memory ran out.
     NoMemory,
-    /// A handler has stopped a request that wasn't cancelled. What it had made of it wasn't put.
-    FalseStop,
 }
 
 impl KitEnd {
-    /// The end of a program that has finished so, where a handler has or hasn't stopped a request
-    /// that wasn't cancelled.
-    pub(crate) fn of(finish: Finish, false_stop: bool) -> KitEnd
+    /// The end of a program that has finished so.
+    pub(crate) fn of(finish: Finish) -> KitEnd
         ensures { finish_of result ≡ finish }
     {
         match finish {
-            Finish::NoMemory if false_stop => KitEnd::FalseStop,
             Finish::AtEnd => KitEnd::End,
             Finish::InputFault => KitEnd::TapFault,
             Finish::BadInput => KitEnd::BadFrame,
@@ -41,14 +37,14 @@ impl KitEnd {
         }
     }
 
-    /// The status with which the program ends: 0 for `End`, 3 for `NoMemory` and `FalseStop`, 4 for
-    /// `BadFrame`, 5 for `TapFault`, 6 for `SinkFault` and 7 for `Long`.
+    /// The status with which the program ends: 0 for `End`, 3 for `NoMemory`, 4 for `BadFrame`, 5 for
+    /// `TapFault`, 6 for `SinkFault` and 7 for `Long`.
     pub fn status(self) -> u8
         ensures { result ≡ status_of (finish_of self) }
     {
         match self {
             KitEnd::End => 0,
-            KitEnd::NoMemory | KitEnd::FalseStop => 3,
+            KitEnd::NoMemory => 3,
             KitEnd::BadFrame => 4,
             KitEnd::TapFault => 5,
             KitEnd::SinkFault => 6,

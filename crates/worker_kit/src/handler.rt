@@ -1,5 +1,5 @@
 // What a worker makes of its requests.
-ghost use Rattle.std.specs.Prelude.{◌≡◌, IfOk, OnErr};
+ghost use Rattle.std.specs.Prelude.{◌≡◌, true, IfOk, OnErr};
 ghost use Rattle.wire_messages.specs.declared.request.WorkRequest.{WorkRequest};
 ghost use Rattle.worker_kit.specs.declared.handler.Handled.{Handled};
 ghost use Rattle.worker_kit.specs.Responses.{number_of, cancels_in, response_of, cancelled_response, Makes, Says};
@@ -11,7 +11,7 @@ use std::alloc::Global;
 use std::marker::PhantomData;
 use std::sync::Wait;
 use wire_messages::{WorkRequest, WorkResponse};
-use work_lanes::{Answerer, CancelFlag, Kind, Made};
+use work_lanes::{Answerer, Flag, Kind, Made};
 
 /// What a handler makes of a request.
 #[derive(Drop)]
@@ -20,9 +20,8 @@ pub struct Handled {
     pub exit: i32,
     /// What there is to say, for people.
     pub output: Text,
-    /// The work was left unfinished, since the request was cancelled. The exit code and the output
-    /// aren't put: where a cancel request was read behind it, the request is answered as cancelled,
-    /// and else the worker ends by `FalseStop`.
+    /// The work was left unfinished, since the request was cancelled. The request is answered as
+    /// cancelled, and the exit code and the output aren't put.
     pub stopped: bool,
 }
 
@@ -32,20 +31,22 @@ pub trait Handler: Sync {
     // What may be made of a request.
     ghost answers: { WorkRequest → Handled → Type 0 };
 
-    /// Does what a request asks. The flag says whether it was cancelled meanwhile; a handler that
-    /// looks at it may stop early and say so.
+    /// Does what a request asks. It may stop early and report so if it has seen the flag raised.
     ///
     /// # Errors
     ///
     /// `NoMemory`, and then the worker ends. A handler that can go on answers with an exit code.
-    fn handle<R: Wait>(
+    fn handle<R: Wait, F: Flag>(
         &self,
         rt: &R,
         alloc: Global,
         request: &WorkRequest,
-        flag: &CancelFlag,
+        flag: &mut F,
     ) -> Result<Handled, NoMemory>
-        ensures { IfOk result (answers request.now) };
+        ensures answers { IfOk result (answers request.now) }
+        ensures same { F.owner flag.new ≡ F.owner flag.old }
+        ensures stops { IfOk result (λ handled. handled.stopped ≡ true
+            → F.raised flag.new ≡ true) };
 }
 
 /// Who answers requests, one at a time. A worker has one for each of its lanes, with a state of its
@@ -65,16 +66,19 @@ pub trait LaneHandler: Drop {
     /// # Errors
     ///
     /// As of [`Handler::handle`].
-    fn handle<R: Wait>(
+    fn handle<R: Wait, F: Flag>(
         &mut self,
         rt: &R,
         alloc: Global,
         request: &WorkRequest,
-        flag: &CancelFlag,
+        flag: &mut F,
     ) -> Result<Handled, NoMemory>
         ensures answers { IfOk result (answers request.now) }
         ensures does { IfOk result (λ handled. does self.old request.now handled self.new) }
-        ensures breaks { OnErr result (breaks self.old request.now self.new) };
+        ensures breaks { OnErr result (breaks self.old request.now self.new) }
+        ensures same { F.owner flag.new ≡ F.owner flag.old }
+        ensures stops { IfOk result (λ handled. handled.stopped ≡ true
+            → F.raised flag.new ≡ true) };
 }
 
 /// A lane's share in the one handler of all lanes.
@@ -90,12 +94,12 @@ impl<H: Handler> LaneHandler for Shared<'_, H> {
 
     ghost breaks = { λ old request new. new ≡ old };
 
-    fn handle<R: Wait>(
+    fn handle<R: Wait, F: Flag>(
         &mut self,
         rt: &R,
         alloc: Global,
         request: &WorkRequest,
-        flag: &CancelFlag,
+        flag: &mut F,
     ) -> Result<Handled, NoMemory> {
         self.handler.handle(rt, alloc, request, flag)
     }
@@ -174,12 +178,12 @@ impl<H: LaneHandler, V: Speech> Answerer<WorkRequest, WorkResponse> for Works<H,
         V::write(alloc, response)
     }
 
-    fn answer<R: Wait>(
+    fn answer<R: Wait, F: Flag>(
         &mut self,
         rt: &R,
         alloc: Global,
         request: &WorkRequest,
-        flag: &CancelFlag,
+        flag: &mut F,
     ) -> Result<Made<WorkResponse>, NoMemory> {
         let handled = self.handler.handle(rt, alloc, request, flag)?;
         let stopped = handled.stopped;

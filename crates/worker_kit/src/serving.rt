@@ -135,13 +135,12 @@ pub fn serve_each<
     };
     let LanesEnded {
         finish,
-        false_stop,
         tap,
         sink,
         handlers: works,
     } = ended;
     Ok(EachEnded {
-        end: KitEnd::of(finish, false_stop),
+        end: KitEnd::of(finish),
         tap,
         sink,
         handlers: handlers_of(works, back),

@@ -19,9 +19,9 @@ loop-preserved g c =
         a.same.2 ∙ (t.same.2 ∙ i.same.2),
       );
       answered = answers_next g.H.Answerer.answers asked.cancelled c.args.handler.now
-          (begun_at number cancels c.loop.caller.pass)
+          (begun_at number cancels c.loop.flag.caller.pass)
           (begun_at number cancels c.take.new.caller.pass)
-          (begun_at number cancels c.answer_one.new.caller.pass) c.loop.handler asked.request
+          (begun_at number cancels c.answer_one.new.flag.caller.pass) c.loop.handler asked.request
           c.answer_one.new.handler i.answered more a.begun a.answered;
     }
 
@@ -34,7 +34,7 @@ returns-in_err-answer_one-clause-followed g c =
     let asked = c.in-Some-2.asked in
     let more = rw (c.in-Some-2.is) at t.begun in
     did_next g.H.Answerer.answers g.H.Answerer.breaks asked.cancelled c.args.handler.now
-    (begun_at number cancels c.loop.caller.pass)
+    (begun_at number cancels c.loop.flag.caller.pass)
     (begun_at number cancels c.take.new.caller.pass)
-    (begun_at number cancels c.answer_one.new.caller.pass) c.loop.handler asked.request
+    (begun_at number cancels c.answer_one.new.flag.caller.pass) c.loop.handler asked.request
     c.answer_one.new.handler c.loop.invariant.answered more a.begun a.did

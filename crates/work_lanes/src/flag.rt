@@ -1,0 +1,55 @@
+// A lane's flag, at which its handler looks.
+ghost use Rattle.std.specs.Prelude.{◌≡◌, Bool, true, IfOk};
+ghost use Rattle.work_queue.specs.declared.queue.Start.{Start};
+ghost use Rattle.work_lanes.specs.Calls.{Owner, owner_at, raised_at};
+
+use crate::calls::is_cancelled;
+use lane_crew::Caller;
+use outside::Sink;
+use plain_values::NoMemory;
+use seat_desk::Machine;
+use std::sync::Wait;
+use work_queue::{CancelFlag, Kind, WorkQueue};
+
+/// The flag of the request that a handler answers. It is raised once the request was cancelled.
+pub trait Flag {
+    // What no look changes: whose flag it is.
+    ghost Owner: { Type 0 };
+
+    ghost owner: { Self → Owner };
+
+    // Whether the request was cancelled by the last look.
+    ghost raised: { Self → Bool };
+
+    /// Returns true if the request was cancelled. How soon it does isn't stated. If no cancel
+    /// request was read, a look costs a few instructions.
+    ///
+    /// # Errors
+    ///
+    /// Returns `NoMemory` if memory runs out.
+    fn is_raised<R: Wait>(&mut self, rt: &R) -> Result<bool, NoMemory>
+        ensures same { owner self.new ≡ owner self.old }
+        ensures stays { raised self.old ≡ true → raised self.new ≡ true }
+        ensures raised { IfOk result (λ yes. yes ≡ true → raised self.new ≡ true) };
+}
+
+/// The flag of a lane: its own hint, and its caller, which asks the queue.
+pub(crate) struct LaneFlag<'a, M: Machine> {
+    pub(crate) caller: Caller<'a, M>,
+    pub(crate) hint: CancelFlag,
+}
+
+impl<O: Sink, X: Drop, Y: Drop, K: Kind<X, Y>> Flag for LaneFlag<'_, WorkQueue<O, X, Y, K>> {
+    ghost Owner = { Owner X (Start O) };
+
+    ghost owner = { λ f. owner_at K.number K.cancels f.caller.pass };
+
+    ghost raised = { λ f. raised_at K.number K.cancels f.caller.pass };
+
+    fn is_raised<R: Wait>(&mut self, rt: &R) -> Result<bool, NoMemory> {
+        if !self.hint.is_raised() {
+            return Ok(false);
+        }
+        is_cancelled(rt, &mut self.caller)
+    }
+}
