@@ -3,6 +3,7 @@
 ghost use Rattle.std.specs.Prelude.{◌<◌};
 
 use crate::failure::Failure;
+use crate::rings::exchange_by_rings;
 use desk_trials::adder::Adder;
 use desk_trials::adding::count_by_four;
 use desk_trials::counter::Counter;
@@ -31,7 +32,8 @@ pub fn tell_trials<R: Threads + Wait + Print + Sync>(rt: &R, alloc: Global) -> R
     tell_two(rt, alloc, 4)?;
     tell_looks(rt, alloc)?;
     tell_token(rt, alloc)?;
-    tell_slots(rt, alloc)
+    tell_slots(rt, alloc)?;
+    tell_rings(rt, alloc)
 }
 
 // Runs four lanes that add ones. Prints the number of calls that each made, by its own count and by the
@@ -134,6 +136,15 @@ fn tell_slots<R: Threads + Wait + Print + Sync>(rt: &R, alloc: Global) -> Result
     println!(rt;
         "six lanes at one slot: {in_turn} times 120 calls in turn, {right} ends as they should be"
     )?;
+    Ok(())
+}
+
+// Runs pairs of lanes that fill and empty a slot, and rest until they are rung.
+fn tell_rings<R: Threads + Wait + Print + Sync>(rt: &R, alloc: Global) -> Result<(), Failure> {
+    for pairs in [1u32, 4, 64] {
+        let calls = exchange_by_rings(rt, alloc, pairs, 50)?;
+        println!(rt; "{} lanes that only a ring wakes: {calls} calls", 2 * pairs)?;
+    }
     Ok(())
 }
 
