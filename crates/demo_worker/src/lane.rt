@@ -11,7 +11,7 @@ use plain_values::NoMemory;
 use std::alloc::Global;
 use std::sync::Wait;
 use wire_messages::WorkRequest;
-use worker_kit::{CancelFlag, Handled, LaneHandler};
+use worker_kit::{Flag, Handled, LaneHandler};
 
 /// A lane that answers requests by commands in its own shop, one after another. A command that has begun is
 /// run to its end, even if its request is cancelled.
@@ -27,12 +27,12 @@ impl<S: Shop> LaneHandler for DemoLane<S> {
 
     ghost breaks = { BreaksRequest S.told };
 
-    fn handle<R: Wait>(
+    fn handle<R: Wait, F: Flag>(
         &mut self,
         _rt: &R,
         alloc: Global,
         request: &WorkRequest,
-        _flag: &CancelFlag,
+        _flag: &mut F,
     ) -> Result<Handled, NoMemory> {
         do_request(alloc, &mut self.shop, request)
     }

@@ -14,7 +14,7 @@ use remote_messages::{Job, JobResult};
 use std::alloc::Global;
 use std::sync::Wait;
 use wire_messages::encode_delimited;
-use work_lanes::{Answerer, CancelFlag, Kind, Made};
+use work_lanes::{Answerer, Flag, Kind, Made};
 
 /// A lane that runs jobs in its own shop, one after another. A job that has begun is run to its end.
 #[derive(Drop)]
@@ -61,12 +61,12 @@ impl<S: Shop> Answerer<Job, JobResult> for JobLane<S> {
         encode_delimited(alloc, response)
     }
 
-    fn answer<R: Wait>(
+    fn answer<R: Wait, F: Flag>(
         &mut self,
         _rt: &R,
         alloc: Global,
         request: &Job,
-        _flag: &CancelFlag,
+        _flag: &mut F,
     ) -> Result<Made<JobResult>, NoMemory> {
         Ok(Made {
             response: do_job(alloc, &mut self.shop, request)?,

@@ -44,7 +44,6 @@ pub fn pool_jobs<T: Tap + Send, O: Sink + Send, S: Shop + Send, R: Threads + Wai
         Io::Done => do_jobs(rt, alloc, Streams { tap, sink }, lanes),
         Io::Failed => LanesEnded {
             finish: Finish::OutputFault,
-            false_stop: false,
             tap,
             sink,
             handlers: lanes,
@@ -71,7 +70,6 @@ fn do_jobs<T: Tap + Send, O: Sink + Send, S: Shop + Send, R: Threads + Wait + Sy
             let Streams { tap, sink } = streams;
             LanesEnded {
                 finish: Finish::NoMemory,
-                false_stop: false,
                 tap,
                 sink,
                 handlers,

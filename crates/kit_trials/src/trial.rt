@@ -1,5 +1,5 @@
 // The handlers of the trials.
-ghost use Rattle.std.specs.Prelude.{◌≡◌, []};
+ghost use Rattle.std.specs.Prelude.{◌≡◌, [], true, IfOk};
 
 use plain_values::{NoMemory, Text};
 use std::alloc::Global;
@@ -8,7 +8,7 @@ use std::sync::atomic::AtomicBool;
 use std::sync::atomic::Ordering::SeqCst;
 use std::thread::yield_now;
 use wire_messages::WorkRequest;
-use worker_kit::{CancelFlag, Handled, Handler, LaneHandler};
+use worker_kit::{Flag, Handled, Handler, LaneHandler};
 
 /// The number of turns that a handler waits at most.
 const MOST_TURNS: u64 = 10_000_000;
@@ -41,18 +41,10 @@ impl Trial {
         }
     }
 
-    // Waits for the event that this request needs. Returns true if it has happened.
-    fn awaits(&self, request: &WorkRequest, flag: &CancelFlag) -> bool {
-        if request.request_id != 1 {
-            return true;
-        }
+    // Waits until number 2 has begun. Returns true if it has.
+    fn awaits_second(&self) -> bool {
         for _ in 0..MOST_TURNS {
-            let has_come = match self.does {
-                Does::Three | Does::Starves => true,
-                Does::Meets => self.second_has_begun.load(SeqCst),
-                Does::Stops => flag.is_raised(),
-            };
-            if has_come {
+            if self.second_has_begun.load(SeqCst) {
                 return true;
             }
             yield_now();
@@ -61,15 +53,29 @@ impl Trial {
     }
 }
 
+// Waits until the request is cancelled. Returns true if it was.
+fn awaits_cancel<R: Wait, F: Flag>(rt: &R, flag: &mut F) -> Result<bool, NoMemory>
+    ensures same { F.owner flag.new ≡ F.owner flag.old }
+    ensures raised { IfOk result (λ yes. yes ≡ true → F.raised flag.new ≡ true) }
+{
+    for _ in 0..MOST_TURNS {
+        if flag.is_raised(rt)? {
+            return Ok(true);
+        }
+        yield_now();
+    }
+    Ok(false)
+}
+
 impl Handler for Trial {
     ghost answers = { λ request handled. Unit {0} };
 
-    fn handle<R: Wait>(
+    fn handle<R: Wait, F: Flag>(
         &self,
-        _rt: &R,
+        rt: &R,
         alloc: Global,
         request: &WorkRequest,
-        flag: &CancelFlag,
+        flag: &mut F,
     ) -> Result<Handled, NoMemory> {
         if request.request_id == 2 {
             self.second_has_begun.store(true, SeqCst);
@@ -77,11 +83,17 @@ impl Handler for Trial {
                 return Err(NoMemory);
             }
         }
-        let has_come = self.awaits(request, flag);
+        let is_first = request.request_id == 1;
+        let stopped = is_first && self.does == Does::Stops && awaits_cancel(rt, flag)?;
+        let has_come = match self.does {
+            Does::Stops => stopped || !is_first,
+            Does::Meets => !is_first || self.awaits_second(),
+            Does::Three | Does::Starves => true,
+        };
         Ok(Handled {
             exit: if has_come { 3 } else { 9 },
             output: Text::of(String::new(alloc)),
-            stopped: self.does == Does::Stops && request.request_id == 1 && has_come,
+            stopped,
         })
     }
 }
@@ -105,12 +117,12 @@ impl LaneHandler for Counts {
 
     ghost breaks = { λ old request new. ⊥ };
 
-    fn handle<R: Wait>(
+    fn handle<R: Wait, F: Flag>(
         &mut self,
         _rt: &R,
         alloc: Global,
         _request: &WorkRequest,
-        _flag: &CancelFlag,
+        _flag: &mut F,
     ) -> Result<Handled, NoMemory> {
         self.count = self.count.saturating_add(1);
         Ok(Handled {

@@ -3,7 +3,7 @@
 //! lines are counted.
 #![tactic(auto)]
 
-ghost use Rattle.std.specs.Prelude.{◌≡◌, ◌⊎◌, IfOk, pos};
+ghost use Rattle.std.specs.Prelude.{◌≡◌, ◌⊎◌, false, IfOk, pos};
 
 use outside::{Io, Read, Shop};
 use outside_real::{OutputFlag, RealInput, RealShop, RealSink, open_standard, tell_about};
@@ -12,7 +12,7 @@ use std::alloc::Global;
 use std::process::ExitCode;
 use std::sync::{Mutex, Wait};
 use wire_messages::WorkRequest;
-use worker_kit::{CancelFlag, Delimited, Handled, Handler, KitEnd, Size, Streams, serve};
+use worker_kit::{Delimited, Flag, Handled, Handler, KitEnd, Size, Streams, serve};
 
 const HELP: &str = "line_worker --persistent_worker
 
@@ -31,12 +31,12 @@ struct LineCounter<S> {
 impl<S: Shop + Send> Handler for LineCounter<S> {
     ghost answers = { λ request handled. (handled.exit ≡ pos 0) ⊎ (handled.exit ≡ pos 1) };
 
-    fn handle<R: Wait>(
+    fn handle<R: Wait, F: Flag>(
         &self,
         rt: &R,
         alloc: Global,
         request: &WorkRequest,
-        flag: &CancelFlag,
+        flag: &mut F,
     ) -> Result<Handled, NoMemory> {
         let mut words = request.arguments.as_slice().iter();
         let Some(output) = words.next() else {
@@ -44,7 +44,7 @@ impl<S: Shop + Send> Handler for LineCounter<S> {
         };
         let mut count: u64 = 0;
         for word in words {
-            if flag.is_raised() {
+            if flag.is_raised(rt)? {
                 return stopped(alloc);
             }
             let path = placed(alloc, request, word)?;
@@ -80,7 +80,8 @@ fn lines_of(bytes: &[u8]) -> u64 {
 }
 
 fn ended(alloc: Global, exit: i32, text: &str) -> Result<Handled, NoMemory>
-    ensures { IfOk result (λ handled. handled.exit ≡ exit) }
+    ensures exit { IfOk result (λ handled. handled.exit ≡ exit) }
+    ensures whole { IfOk result (λ handled. handled.stopped ≡ false) }
 {
     Ok(Handled {
         exit,

@@ -11,18 +11,19 @@ use seat_desk::Machine;
 use std::sync::Wait;
 use work_queue::{CancelFlag, Kind, WorkQueue};
 
-/// The flag of the request that a handler answers. It is raised once the request was cancelled.
+/// The flag at which a handler looks while it answers a request. It is raised only if the request was
+/// cancelled.
 pub trait Flag {
-    // What no look changes: whose flag it is.
+    // Whose flag it is. A look leaves that as it was.
     ghost Owner: { Type 0 };
 
     ghost owner: { Self → Owner };
 
-    // Whether the request was cancelled by the last look.
+    // True if the request was cancelled by the last look.
     ghost raised: { Self → Bool };
 
-    /// Returns true if the request was cancelled. How soon it does isn't stated. If no cancel
-    /// request was read, a look costs a few instructions.
+    /// Returns true only if the request was cancelled. No clause states how soon it does. While no
+    /// cancel request of its number was read, a look reads one word.
     ///
     /// # Errors
     ///

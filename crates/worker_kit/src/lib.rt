@@ -2,9 +2,9 @@
 //!
 //! A worker is a [`Handler`]: what it makes of one request. [`serve`] does the rest: one lane reads
 //! the input, and others answer what it has read, each request once and under its number. A request
-//! that is cancelled before a lane takes it is answered as cancelled and not handled. One that is
-//! being handled has its [`Flag`] raised, and its handler may stop. [`serve_each`] gives each lane a
-//! handler of its own, and hands the handlers back.
+//! that is cancelled before a lane takes it is answered as cancelled and not handled. If one is
+//! cancelled while it is handled, its handler sees a [`Flag`] raised and may stop. [`serve_each`] gives
+//! each lane a handler of its own, and hands the handlers back.
 //!
 //! [`Delimited`] reads and writes messages in the binary form of Protocol Buffers, each behind its
 //! length.
