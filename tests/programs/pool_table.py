@@ -2,6 +2,7 @@
 from __future__ import annotations
 
 import contextlib
+import itertools
 import os
 import pathlib
 import subprocess
@@ -192,6 +193,25 @@ def output_gone(programs: Programs, folder: pathlib.Path) -> None:
     compare(given, 6, play.ended_unheard([programs.job_pool, "--serve"], rooms(folder), len(GREETING), given))
 
 
+def numbers_again(programs: Programs, folder: pathlib.Path) -> None:
+    """Checks that jobs whose numbers were answered before keep their folders, whichever lane had them then, and that none is left."""
+    place = rooms(folder)
+    with subprocess.Popen([programs.job_pool, "--serve", "--jobs=4"], cwd=place, stdin=subprocess.PIPE, stdout=subprocess.PIPE) as program:
+        compare("the greeting", GREETING, read(program, len(GREETING)))
+        for order in itertools.permutations(range(1, 5)):
+            jobs = {it: job(it, [*SHELL, b"sleep 0.0%d; cat i >o" % it], [(b"i", b"%d" % it)], [b"o"], [PATH]) for it in order}
+            give(program, *jobs.values())
+            wanted = sorted(framed(result(it, files=[(b"o", b"%d" % it)])) for it in order)
+            compare("the results", b"".join(wanted), b"".join(sorted(framed(it) for it in read_some(program, len(order)))))
+        ends(program)
+    compare("what is left", [".executor_lock"], sorted(os.listdir(place)))
+
+
+def read_some(program: subprocess.Popen[bytes], count: int) -> list[bytes]:
+    """Reads some results, each of fewer than 128 bytes."""
+    return [read(program, read(program, 1)[0]) for _ in range(count)]
+
+
 def cases() -> Iterator[Case]:
-    for case in [results, side_by_side, as_they_end, woken, given_up, crowd, with_the_tool, eight_seconds, streams, output_gone]:
+    for case in [results, side_by_side, as_they_end, woken, given_up, crowd, with_the_tool, eight_seconds, streams, output_gone, numbers_again]:
         yield Case(f"pool: {case.__name__.replace('_', ' ')}", case)

@@ -9,7 +9,7 @@ mod words;
 use crate::words::read_words;
 use job_lanes::{JobLane, Streams, pool_jobs};
 use outside_real::{
-    OutputFlag, RealInput, RealShop, RealSink, lock_jobs, open_standard, tell_about,
+    JobFolders, OutputFlag, RealInput, RealShop, RealSink, lock_jobs, open_standard, tell_about,
 };
 use plain_values::NoMemory;
 use std::alloc::Global;
@@ -68,7 +68,10 @@ fn main(rt: HostRuntime) -> ExitCode {
     let Ok(lanes) = lanes_of(rt, alloc, jobs) else {
         return ExitCode::from(NO_MEMORY);
     };
-    let ended = pool_jobs(&rt, alloc, streams, lanes);
+    let mut ended = pool_jobs(&rt, alloc, streams, lanes);
+    for lane in &mut ended.handlers {
+        lane.shop.leave();
+    }
     ExitCode::from(ended.finish.status())
 }
 
@@ -80,10 +83,11 @@ fn lanes_of<R: Copy>(
 ) -> Result<Vec<JobLane<RealShop<R>>>, NoMemory>
     ensures { IfOk result (λ lanes. length lanes.items ≡ count) }
 {
+    let folders = JobFolders::new(alloc)?;
     let mut lanes = Vec::with_capacity(alloc, count as usize)?;
     for _ in 0..count {
         lanes.push_reserved(JobLane {
-            shop: RealShop::for_jobs(rt, alloc),
+            shop: RealShop::for_jobs(rt, alloc, folders.clone()?),
         });
     }
     Ok(lanes)

@@ -1,18 +1,68 @@
 //! The folders of an executor's jobs.
 use bare_calls::{LockFile, Locked, can_name_open_folders, lock_inside, put_aside};
+use plain_values::NoMemory;
 use std::alloc::Global;
 use std::io;
 use std::rt::Files;
+use std::sync::{Arc, Mutex, Wait};
 
 /// The start folder, which contains the jobs' folders.
 pub(crate) const HERE: &str = ".";
 
 const LOCK: &str = ".executor_lock";
 
-/// The folder of the current job, or of the last one. Each job has a folder that is made for it and removed afterwards.
-/// So a job finds nothing of another job, and nothing that another job's processes still write.
+/// The names of the folders that an executor's lanes have, each as often as there are lanes that have it.
+///
+/// A job may have the number of an earlier one that was answered, and then both have the same folder. If the lane of the
+/// earlier one removes the folder only when it begins another job, it must not remove the later one's.
+#[derive(Drop)]
+pub struct JobFolders {
+    names: Mutex<Vec<String>>,
+}
+
+impl JobFolders {
+    /// Returns the value of an executor that has no job yet, for all its lanes.
+    ///
+    /// # Errors
+    ///
+    /// Returns `NoMemory` if memory runs out.
+    pub fn new(alloc: Global) -> Result<Arc<JobFolders>, NoMemory> {
+        let folders = JobFolders {
+            names: Mutex::new(Vec::new(alloc)),
+        };
+        Ok(Arc::new(alloc, folders)?)
+    }
+
+    // Removes any old folder of this name, and records that a lane has a folder of it.
+    fn begin<R: Files + AllocGlobal + Wait>(
+        &self,
+        rt: &R,
+        alloc: Global,
+        name: &str,
+    ) -> io::Result<()> {
+        let mut names = self.names.lock(rt);
+        put_aside(rt, alloc, HERE, name)?;
+        names.push(String::from_str(alloc, name)?)?;
+        Ok(())
+    }
+
+    // Records that a lane has this folder no more. Removes it as far as possible, unless another lane has it by now.
+    fn end<R: Files + AllocGlobal + Wait>(&self, rt: &R, alloc: Global, name: &str) {
+        let mut names = self.names.lock(rt);
+        if let Some(place) = names.iter().position(|other| other.as_str() == name) {
+            names.swap_remove(place);
+        }
+        if !names.iter().any(|other| other.as_str() == name) {
+            let _ = put_aside(rt, alloc, HERE, name);
+        }
+    }
+}
+
+/// The folder of a lane's current job, or of its last one. Each job has a folder that is made for it and removed
+/// afterwards. So a job finds nothing of another job, and nothing that another job's processes still write.
 #[derive(Drop)]
 pub(crate) struct JobFolder {
+    folders: Arc<JobFolders>,
     // `None` before the first job.
     name: Option<String>,
     // True if the folder's job is under way and hasn't been run.
@@ -20,8 +70,9 @@ pub(crate) struct JobFolder {
 }
 
 impl JobFolder {
-    pub(crate) fn new() -> JobFolder {
+    pub(crate) fn new(folders: Arc<JobFolders>) -> JobFolder {
         JobFolder {
+            folders,
             name: None,
             is_filled: false,
         }
@@ -29,7 +80,7 @@ impl JobFolder {
 
     /// Prepares for a call that fills a job's folder or runs the job. The first call of a job removes any old folder of
     /// that name.
-    pub(crate) fn enter<R: Files + AllocGlobal>(
+    pub(crate) fn enter<R: Files + AllocGlobal + Wait>(
         &mut self,
         rt: &R,
         alloc: Global,
@@ -40,8 +91,9 @@ impl JobFolder {
             return Ok(());
         }
         self.leave(rt, alloc);
-        put_aside(rt, alloc, HERE, job)?;
-        self.name = Some(String::from_str(alloc, job)?);
+        let name = String::from_str(alloc, job)?;
+        self.folders.begin(rt, alloc, job)?;
+        self.name = Some(name);
         self.is_filled = true;
         Ok(())
     }
@@ -53,9 +105,9 @@ impl JobFolder {
     }
 
     /// Removes the folder of the last job, as far as possible.
-    pub(crate) fn leave<R: Files + AllocGlobal>(&mut self, rt: &R, alloc: Global) {
+    pub(crate) fn leave<R: Files + AllocGlobal + Wait>(&mut self, rt: &R, alloc: Global) {
         if let Some(last) = self.name.take() {
-            let _ = put_aside(rt, alloc, HERE, last.as_str());
+            self.folders.end(rt, alloc, last.as_str());
         }
     }
 

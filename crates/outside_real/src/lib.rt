@@ -22,7 +22,7 @@ pub use about::{VERSION, tell_about};
 pub use bare_calls::open_standard;
 pub use floor::RealFloor;
 pub use input::RealInput;
-pub use job_folder::lock_jobs;
+pub use job_folder::{JobFolders, lock_jobs};
 pub use line::{RealChild, RealFeed, RealTap};
 pub use output_flag::OutputFlag;
 pub use pipe::ProcessEnd;

@@ -2,7 +2,7 @@
 ghost use Rattle.std.specs.Prelude.{◌≡◌, Some, []};
 ghost use Rattle.outside.specs.Causes.{Counts};
 
-use crate::job_folder::{HERE, JobFolder};
+use crate::job_folder::{HERE, JobFolder, JobFolders};
 use crate::notes::{Got, Made, Put, Ran};
 use bare_calls::{BESIDE, make_folder_inside, read_inside, read_regular, run_to_end, write_inside};
 use outside::{Io, JobEnd, Read, Shop, ShopCall, Variable};
@@ -12,6 +12,7 @@ use std::io;
 use std::marker::Model;
 use std::process::{ExitStatus, Processes, SystemProcess};
 use std::rt::Files;
+use std::sync::{Arc, Wait};
 use told_logs::Told;
 
 /// Files and commands below the start folder.
@@ -62,13 +63,13 @@ impl<R> RealShop<R> {
         RealShop::of(rt, alloc, Purpose::Worker(number))
     }
 
-    /// Returns the shop of an executor in the start folder. Each job gets its own folder, which is made for it and
-    /// removed afterwards. Nothing behind a link is read.
-    pub fn for_jobs(rt: R, alloc: Global) -> RealShop<R>
+    /// Returns the shop of an executor's lane in the start folder. Each job gets its own folder, which is made for it and
+    /// removed afterwards; all lanes share `folders`. Nothing behind a link is read.
+    pub fn for_jobs(rt: R, alloc: Global, folders: Arc<JobFolders>) -> RealShop<R>
         ensures faults { result.faults ≡ 0 }
         ensures log { result.log ≡ [] }
     {
-        RealShop::of(rt, alloc, Purpose::Jobs(JobFolder::new()))
+        RealShop::of(rt, alloc, Purpose::Jobs(JobFolder::new(folders)))
     }
 
     fn of(rt: R, alloc: Global, purpose: Purpose) -> RealShop<R>
@@ -97,7 +98,7 @@ impl<R> RealShop<R> {
     }
 }
 
-impl<R: Files + AllocGlobal> RealShop<R> {
+impl<R: Files + AllocGlobal + Wait> RealShop<R> {
     /// Removes the folder of the last job, as far as possible. The call isn't recorded.
     pub fn leave(&mut self)
         ensures { self.new ≡ self.old }
@@ -109,7 +110,7 @@ impl<R: Files + AllocGlobal> RealShop<R> {
 }
 
 // Prepares for a call that begins a job or continues one.
-fn enter<R: Files + AllocGlobal>(
+fn enter<R: Files + AllocGlobal + Wait>(
     rt: &R,
     alloc: Global,
     purpose: &mut Purpose,
@@ -121,7 +122,7 @@ fn enter<R: Files + AllocGlobal>(
     }
 }
 
-fn put<R: Files + AllocGlobal>(
+fn put<R: Files + AllocGlobal + Wait>(
     rt: &R,
     alloc: Global,
     purpose: &mut Purpose,
@@ -138,7 +139,7 @@ fn put<R: Files + AllocGlobal>(
     }
 }
 
-fn folder<R: Files + AllocGlobal>(
+fn folder<R: Files + AllocGlobal + Wait>(
     rt: &R,
     alloc: Global,
     purpose: &mut Purpose,
@@ -161,7 +162,7 @@ fn get<R: Files + AllocGlobal>(
 }
 
 // Makes the folder, and runs the words in it to their end.
-fn run<R: Files + AllocGlobal + Processes<Started = SystemProcess>>(
+fn run<R: Files + AllocGlobal + Processes<Started = SystemProcess> + Wait>(
     rt: &R,
     alloc: Global,
     purpose: &mut Purpose,
@@ -177,7 +178,7 @@ fn run<R: Files + AllocGlobal + Processes<Started = SystemProcess>>(
     run_to_end(rt, alloc, folder, words, env)
 }
 
-impl<R: Files + AllocGlobal + Processes<Started = SystemProcess> + Drop> Shop for RealShop<R> {
+impl<R: Files + AllocGlobal + Processes<Started = SystemProcess> + Wait + Drop> Shop for RealShop<R> {
     ghost told = { λ s. record { faults = s.faults; log = Some s.log } };
 
     fn faults(&self) -> u64 {

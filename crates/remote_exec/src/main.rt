@@ -3,7 +3,7 @@
 
 use demo_programs::execute;
 use outside_real::{
-    OutputFlag, RealInput, RealShop, RealSink, lock_jobs, open_standard, tell_about,
+    JobFolders, OutputFlag, RealInput, RealShop, RealSink, lock_jobs, open_standard, tell_about,
 };
 use std::env::{self, Env};
 use std::io::{self, ErrorKind};
@@ -55,7 +55,10 @@ fn main(rt: HostRuntime) -> ExitCode {
     let output = OutputFlag::new();
     let mut input = RealInput::answered(rt.stdin(), &output);
     let mut out = RealSink::flagged(rt, &output);
-    let mut shop = RealShop::for_jobs(rt, alloc);
+    let Ok(folders) = JobFolders::new(alloc) else {
+        return ExitCode::from(NO_MEMORY);
+    };
+    let mut shop = RealShop::for_jobs(rt, alloc, folders);
     let finish = execute(&rt, alloc, &mut input, &mut out, &mut shop);
     shop.leave();
     ExitCode::from(finish.status())
