@@ -23,7 +23,7 @@ returns-in-TooLarge g c =
     (g.B.Berth.told c.args.berth.now) (g.B.Feed.Feed.told c.args.feed.now)
     (sym (due_is means t c.args.work.now.number work files c.room_of-room.result TooLarge (c.room_of-room.ensures
     ∙ (λ i. room_for (c.kind_of.ensures i) (to_z-of_z fits i)))
-    (sym c.in-TooLarge.is ∙ c.in_ok-frame.ensures)))
+    (sym c.in-TooLarge.is ∙ c.in_ok-send_frame.ensures)))
 
 pub returns-in-Frame : goal.returns-in-Frame
 returns-in-Frame g c =
@@ -42,7 +42,7 @@ returns-in-Frame g c =
     (Frame c.as_slice-bytes.result.now) c.write_frame.result old new before after
     (ap (λ (bs : List ℕ). Frame bs) c.as_slice-bytes.ensures
     ∙ due_is means t n work files c.room_of-room.result (Frame c.in-Frame.frame) room
-    (sym c.in-Frame.is ∙ c.in_ok-frame.ensures))
+    (sym c.in-Frame.is ∙ c.in_ok-send_frame.ensures))
     (subst (λ (r : Room). Writes (asks_in means.speech r c.args.work.now) (Frame c.as_slice-bytes.result.now)
     c.write_frame.result old new before after) room c.write_frame.ensures)
 
@@ -57,13 +57,13 @@ returns-in_err-know_digests g c =
     rw (e.1) (cut_writes (send_asks means t n work files) (due_for means t n work files) e.0
     (g.B.Berth.told c.args.berth.now) (g.B.Feed.Feed.told c.args.feed.now))
 
-pub returns-in_err-frame : goal.returns-in_err-frame
-returns-in_err-frame g c =
+pub returns-in_err-send_frame : goal.returns-in_err-send_frame
+returns-in_err-send_frame g c =
     let means = means_at c.args.site.now in
     let t = c.args.attempt in
     let n = c.args.work.now.number in
     let work = c.args.work.now.action.now in
     let files = c.args.work.now.inputs.now in
-    let e = err_from_is_err_and c.from_residual-in_err-frame.result c.from_residual-in_err-frame.ensures.1 in
+    let e = err_from_is_err_and c.from_residual-in_err-send_frame.result c.from_residual-in_err-send_frame.ensures.1 in
     rw (e.1) (cut_writes (send_asks means t n work files) (due_for means t n work files) e.0
     (g.B.Berth.told c.args.berth.now) (g.B.Feed.Feed.told c.args.feed.now))

@@ -1,4 +1,4 @@
-use Rattle.std.proofs.Common.{◌≡◌, inl, inr, ℕ, ◌<◌, ◌^◌, ◌==◌, Bool, true, false, not, ◌&&◌, int_eq, length, Option, Some, List, [], ◌∷◌, ◌++◌, refl, ap, sym, subst, ◌∙◌}
+use Rattle.std.proofs.Common.{◌≡◌, inl, inr, ℕ, ◌<◌, ◌^◌, ◌==◌, Bool, true, false, not, ◌&&◌, int_eq, length, Option, Some, Result, Ok, Err, List, [], ◌∷◌, ◌++◌, refl, ap, sym, subst, ◌∙◌}
 use Rattle.seat_desk.specs.History.{entry}
 use Rattle.seat_desk.specs.Passes.{mine, basis, seen}
 use Rattle.exec_journal.specs.declared.call.Call.TheVariants as call
@@ -10,7 +10,7 @@ use Rattle.exec_journal.specs.declared.call.Found.TheVariants as found
 use Rattle.outside.specs.Told.{PlaceTold}
 use Rattle.core_contract.specs.Moves.{History}
 use Rattle.core_contract.specs.Shelf.{Fresh}
-use Rattle.std.specs.Prelude.{if◌then◌else◌, pos}
+use Rattle.std.specs.Prelude.{if◌then◌else◌, pos, OnErr}
 use Rattle.std.proofs.lemmas.Bool.{eqb-true}
 use Rattle.std.proofs.lemmas.Result.{err_from_is_err_and}
 use Rattle.core_contract.specs.Discipline.{Discipline, outputs_in}
@@ -19,7 +19,7 @@ use Rattle.core_contract.specs.Duties.{Duty, Asks, Launches, Sends, Cancels, Gat
 use Rattle.core_bench.specs.Objects.{IsPlaceAt}
 use Rattle.proxy_calls.specs.Claims.{claim_of, IsGranted, OwesCommit}
 use Rattle.proxy_deeds.specs.declared.halt.ProxyHalt.{ProxyHalt}
-use Rattle.proxy_steps.specs.Steps.{files_in, IsCauseOfClaim}
+use Rattle.proxy_steps.specs.Steps.{files_in, HasFiles, IsCauseOfClaim}
 use Rattle.proxy_steps.proofs.Sends.{starts_later}
 use Rattle.proxy_steps.proofs.Serving.{proxy_on, by_rules}
 use Rattle.proxy_lane.proofs.Siting.{same_on, stays_at}
@@ -92,6 +92,11 @@ granted_fits told discipline w s t place (found.Missing n) r own x may = absurd 
 granted_fits told discipline w s t place found.RoomFault r own x may = absurd x
 granted_fits told discipline w s t place found.Refused r own x may = absurd x
 
+-- what is said of an error holds where there is no answer
+else_err : {T E : Type 0} (r : Result T E) (P : Type 0) → OnErr r P → ((x : T) → r ≡ Ok x → ⊥) → P
+else_err (Ok x) P said none = absurd (none x refl)
+else_err (Err e) P said none = said
+
 pub claim-requires-clause-lane : goal.claim-requires-clause-lane
 claim-requires-clause-lane g c = c.requires.at_site.lane
 
@@ -113,9 +118,9 @@ commit_files-requires-clause-may g c =
     let outputs = outputs_in discipline.plan t.action in
     let work = c.args.work.now.outputs in
     let paths = c.as_slice-in-Some.ensures in
-    let claimed = c.in-Some.ensures.claimed in
+    let claimed = c.in_ok-place.ensures.claimed in
     let granted = subst (λ (o : Option g.row.P.Denot). IsGranted told outputs t o f claimed.reply (mine p1))
-    c.in-Some.field-0-is claimed.granted in
+    c.in-Some.is claimed.granted in
     let owes = some_granted told outputs t c.in-Some.place f claimed.reply (mine p1) granted in
     let copies = c.as_slice.ensures.value ∙ c.in-Ok.ensures.ok in
     let of : outputs ≡ work = sym c.requires.of_action.same_outputs in
@@ -140,9 +145,9 @@ returns-in-Some g c =
     let f = c.args.found in
     let told = g.P.Place.told in
     let outputs = outputs_in (g.C.Rules.discipline (basis p)).plan t.action in
-    let claimed = c.in-Some.ensures.claimed in
+    let claimed = c.in_ok-place.ensures.claimed in
     let granted = subst (λ (o : Option g.row.P.Denot). IsGranted told outputs t o f claimed.reply (mine p1))
-    c.in-Some.field-0-is claimed.granted in
+    c.in-Some.is claimed.granted in
     let owes = some_granted told outputs t c.in-Some.place f claimed.reply (mine p1) granted in
     let done = c.commit_files.ensures.committed in
     let made = subst (λ (n : ℕ). mine p2 ≡ mine p1
@@ -161,18 +166,18 @@ returns-in-Some g c =
       refused = tt;
     }
 
-pub returns-in-None : goal.returns-in-None
-returns-in-None g c =
+pub returns : goal.returns
+returns g c =
     let p = c.args.self.now.caller.pass in
     let p1 = c.claim.new.caller.pass in
     let t = c.args.attempt in
-    let claimed = c.in-None.ensures.claimed in
+    let claimed = c.in_ok-place.ensures.claimed in
     record {
       same = record { pass = c.claim.ensures.same; site = refl };
       hands = refl;
       claims = (
         subst (λ (o : Option g.row.P.Denot). IsGranted g.P.Place.told (outputs_in (g.C.Rules.discipline (basis p)).plan t.action)
-            t o c.args.found claimed.reply (mine p1)) c.in-None.field-0-is claimed.granted,
+            t o c.args.found claimed.reply (mine p1)) c.in-None.is claimed.granted,
         (claimed.made.0, (claimed.reply, mine p1, claimed.made.1, inl refl)),
       );
       refused = tt;
@@ -192,12 +197,12 @@ returns-in_err-place g c =
       );
     })
 
-pub returns-in_else : goal.returns-in_else
-returns-in_else g c =
+pub returns-in_default : goal.returns-in_default
+returns-in_default g c =
     let stays = stays_at c.args.self.now.caller.pass in
     record {
       same = record { pass = stays.same; site = refl };
       hands = refl;
       claims = tt;
-      refused = (stays.none, c.in_else.ensures.err);
+      refused = (stays.none, else_err c.copies_of.result (HasFiles c.args.found) c.copies_of.ensures.err c.in_default.not-Ok);
     }

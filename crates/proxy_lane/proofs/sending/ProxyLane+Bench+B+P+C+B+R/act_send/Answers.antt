@@ -1,4 +1,4 @@
-use Rattle.std.proofs.Common.{List, ℤ, refl, ap, sym, subst, ◌∙◌, w32, SFits, rules as facts}
+use Rattle.std.proofs.Common.{List, ℤ, sym, subst, w32, SFits, rules as facts}
 use Rattle.std.proofs.Math.Facts.{to_z-of_z}
 use Rattle.std.proofs.lemmas.Result.{err_from_is_err_and}
 use Rattle.seat_desk.specs.Passes.{basis, seen}
@@ -14,7 +14,7 @@ use Rattle.proxy_steps.proofs.Acting.{send_acts, no_inputs}
 use Rattle.proxy_lane.specs.Held.{ByOpenLine, IsOpen}
 use Rattle.proxy_lane.specs.declared.site.Site.{Site}
 use Rattle.proxy_lane.specs.Sites.{means_at}
-use Rattle.proxy_lane.proofs.Siting.{by_line_at, by_no_line, looked_on, stays_at}
+use Rattle.proxy_lane.proofs.Siting.{by_line_at, by_no_line}
 use Rattle.proxy_lane.proofs.sending.ProxyLane+Bench+B+P+C+B+R.act_send.Goals as goal
 
 pub send-requires-clause-opened : goal.send-requires-clause-opened
@@ -33,7 +33,9 @@ send-requires-clause-group g c =
     (sym c.in_ok-inputs.ensures.stays.site) c.requires.due.group
 
 pub returns-clause-stays : goal.returns-clause-stays
-returns-clause-stays g c = c.in_ok-inputs.ensures.stays
+returns-clause-stays g c =
+    let here = c.in_ok-inputs.ensures.stays in
+    record { stays = here.stays; site = here.site }
 
 pub returns-clause-acts : goal.returns-clause-acts
 returns-clause-acts g c =

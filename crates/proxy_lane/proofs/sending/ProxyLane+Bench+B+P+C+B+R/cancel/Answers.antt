@@ -33,6 +33,7 @@ pub returns : goal.returns
 returns g c =
     let rules = g.C.Rules.discipline in
     let x0 = c.args.self.now in
+    let x1 = record x0 { hands = c.cancel-wrote.new.self } in
     let x2 = c.report.new.self in
     let means = means_at x0.site in
     let p = x0.caller.pass in
@@ -49,7 +50,7 @@ returns g c =
     let o = acts.was_open in
     let of = open_is h o l order.1 acts.was in
     let then = with_feed new o acts.feed h in
-    let reports = subst (λ (m : ℤ). ReportsWrote c.report.result _ x2 l m wrote) (to_z-of_z c.ranges.number)
+    let reports = subst (λ (m : ℤ). ReportsWrote c.report.result x1 x2 l m wrote) (to_z-of_z c.ranges.number)
     c.report.ensures in
     obeys_with rules c.report.result x0 x2 then
     (record { pass = reports.same.pass; site = reports.same.site })
