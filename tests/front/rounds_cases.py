@@ -8,6 +8,11 @@ import time
 
 from case import Folder
 
+from front.digests import Files
+from front.listing import load
+from front.options import Words
+from front.settled import settle
+
 
 class Rounds(Folder):
     """Cases of rounds and of the memory of successes."""
@@ -187,6 +192,23 @@ class Rounds(Folder):
                 pathlib.Path(".lenthuvi", name).write_text(text)
             self.assertIn("2 actions made", self.front())
             self.assertIn("2 up to date", self.front())
+
+    def test_a_source_that_changes_while_all_is_looked_at(self) -> None:
+        """Checks that the stamps aren't kept if the list has changed since the call began, and that those of other files are old ones."""
+        self.worker()
+        self.write_list(self.actions(2))
+        self.front()
+        time.sleep(0.1)
+        settled = pathlib.Path(".lenthuvi/lists/list/settled")
+        for seconds, is_kept in ((0.0, True), (60.0, False)):
+            listing, files = load("list.json"), Files(".lenthuvi/stamps")
+            files.digests(path for it in listing.actions for path in (*it.reads(), *it.outputs))
+            settle(listing, Words("build"), listing.actions, files, seconds)
+            self.assertEqual(settled.exists(), is_kept)
+        files.digests(["src/0"])
+        self.put("src/0", "other\n")
+        settle(listing, Words("build"), listing.actions, files, 0.0)
+        self.assertIn("1 action made", self.front())
 
     def test_list_names_that_are_the_states_own(self) -> None:
         self.worker()
