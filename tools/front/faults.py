@@ -21,6 +21,7 @@ PATHS = ("tools", "inputs", "outputs")
 MOST = {"argv": 1024, "env": 256, "tools": 256, "inputs": 4096, "outputs": 256, "requirements": 64}
 MOST_PATH_BYTES, MOST_DEPTH = 4096, 16
 RESERVED, PART = ("__sandbox", ".worker_rooms"), ".worker_tool."
+TEXTS = {str}
 FLAG_WORD = re.compile(r"(@|--?flagfile=).", re.DOTALL)
 
 
@@ -113,8 +114,8 @@ def is_kind(key: str, value: Any) -> bool:
     if key in ("name", "mnemonic", "strategy"):
         return isinstance(value, str)
     if key in ("env", "requirements"):
-        return isinstance(value, dict) and all(isinstance(it, str) for it in value.values())
-    return isinstance(value, list) and all(isinstance(it, str) for it in value)
+        return isinstance(value, dict) and set(map(type, value.values())) <= TEXTS
+    return isinstance(value, list) and set(map(type, value)) <= TEXTS
 
 
 KINDS = {"env": "an object of strings", "requirements": 'an object of strings, for example {"supports-workers": "1"}',
