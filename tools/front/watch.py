@@ -335,7 +335,6 @@ class Watcher:
         if self.home is not None and told.exit == 0 and not told.cancelled:
             self.take_back(done)
         self.suspects.discard(told.id)
-        self.give_turns(1)
         begun = max(done.since, self.last_answer) if self.config["in_turn"] else done.since
         self.last_answer = time.monotonic()
         if (told.refusal or told.exit == KILLED_BY_TIMER) and self.config["local"] and done.limit and time.monotonic() - begun >= done.limit:
@@ -344,6 +343,7 @@ class Watcher:
         more = {"text": told.text[:MOST_TEXT] if bad else "", "refusal": told.refusal, "cancelled": told.cancelled}
         rest = "".join(f', "{key}": {spelt_value(it)}' for key, it in more.items() if it)
         self.notes.add_of("answer", done.name, told.id, f', "exit": {told.exit}{rest}')
+        self.give_turns(1)
         if bad:
             self.stop_all()
             self.keep_room(done)
