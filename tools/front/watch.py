@@ -134,7 +134,7 @@ class Watcher:
         return self.home.path if self.home is not None else os.getcwd()
 
     def tools_are_as_before(self) -> bool:
-        """Returns True if no tool has changed since the front took the digests by which a kept worker is found."""
+        """Returns True if no tool has changed since the front looked at those by which a kept worker is found."""
         try:
             for path, *stamp in self.config["stamps"]:
                 held = os.stat(path)

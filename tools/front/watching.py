@@ -73,7 +73,7 @@ class Watching:
         keep = self.words.number("--keep", 0)
         config = {**self.common(), "form": first.form(), "kind": first.mnemonic, "names": self.names_of(actions), "in_turn": not several,
                   "tools": sum_of([f"{path}={self.tools.get(path)}" for path in reads]),
-                  "stamps": [[os.path.abspath(path), *(stamp_of(path) or ())] for path in reads],
+                  "stamps": [[os.path.abspath(path), *(stamp_of(path) or ())] for path in (*reads, *keeper.named_files(first.start_words()))],
                   "keep": keep, "kept": keeper.folder() if keep else "", "most_kept": self.most_kept}
         if self.sandbox:
             config["isolate"] = isolation.bound(self.sandbox, self.start, [os.path.abspath(it) for it in reads])
