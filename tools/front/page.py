@@ -106,7 +106,7 @@ class Clock:
 
 
 def slot_of(room: str) -> str:
-    """Returns the slot that a room belongs to. If a slot's room can't be emptied, its next process has a room with a number more."""
+    """Returns the slot that a room belongs to. Each process of a slot has a room with a new name: 0, 0.1, 0.2."""
     folder, _, name = room.rpartition("/")
     return f"{folder}/{name.partition('.')[0]}" if os.path.basename(folder) == ".worker_rooms" else room
 
