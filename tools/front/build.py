@@ -412,6 +412,10 @@ class Build:
         known = self.shapes.get(action.name) if flags == self.flags else None
         return known or action.shape(flags)
 
+    def knows_all(self) -> bool:
+        """Returns True if each success of this call is remembered, and no action runs each time."""
+        return self.all_remembered and not any(it.always() for it in self.actions)
+
     def recover(self) -> int:
         """Remembers the successes of a run that was killed. Returns how many there are."""
         if not os.path.exists(self.open_path):

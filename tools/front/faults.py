@@ -4,7 +4,6 @@ docs/FORMATS.md has the rules. worker_tool doesn't depend on this: it reads the 
 """
 from __future__ import annotations
 
-import difflib
 import json
 import os
 import re
@@ -31,6 +30,8 @@ class Unreadable(Exception):
 
 def near(word: str, known: tuple[str, ...]) -> str:
     """Returns a hint at the known word that is most like another one, or nothing."""
+    import difflib  # few lists need it
+
     found = difflib.get_close_matches(word, known, 1)
     return f'; did you mean "{found[0]}"?' if found else ""
 

@@ -122,7 +122,7 @@ def run(made: Build, words: Words, voice: Voice) -> int:
         voice.erase()
         counts = summary(made, voice, status)
         sink.keep([{"t": time.time(), "e": "done", "status": status, "seconds": round(voice.seconds(), 3), **counts}])
-        if status == 0 and made.all_remembered and counts["ok"] + counts["up_to_date"] == len(made.actions):
+        if status == 0 and counts["ok"] + counts["up_to_date"] == len(made.actions) and made.knows_all():
             settle(made.listing, words, made.actions, made.files, voice.seconds())
         status = write_views(made, words, sink.trouble, voice) or status
     finally:
