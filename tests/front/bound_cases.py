@@ -2,6 +2,7 @@
 from __future__ import annotations
 
 import json
+import marshal
 import os
 import pathlib
 import resource
@@ -124,7 +125,7 @@ if not os.path.exists("{self.folder}/died-" + words["name"]):
         self.script(DEADLY)
         config = {"events": "events", "logs": ".", "rooms": "", "stop": "stop", "stops": False, "limit": 0.0, "keep": 0.0, "tools": "",
                   "local": False, "in_turn": False, "start": ".", "form": "json", "kind": "Die", "names": {}, "alone": True, "outputs": {}}
-        self.put("config", json.dumps(config))
+        pathlib.Path("config").write_bytes(marshal.dumps(config))
         watcher = subprocess.Popen([sys.executable, "-I", "-S", str(TOP / "tools" / "front" / "watcher.py"), "config",
                                     os.path.abspath("worker"), "--persistent_worker"], stdin=subprocess.PIPE, stdout=subprocess.PIPE, text=True)
         assert watcher.stdin is not None and watcher.stdout is not None
@@ -330,4 +331,4 @@ class Hangs(Folder):
         os.chmod("far", 0o755)
         for executor in ("remote_exec", "./far"):
             self.assertIn("8 actions made", self.front("run", "--limit=2", f"--executor={executor}"))
-        self.assertEqual(json.loads(pathlib.Path(".lenthuvi/lists/list/keys/executor.json").read_text())["local"], False)
+        self.assertEqual(marshal.loads(pathlib.Path(".lenthuvi/lists/list/keys/executor").read_bytes())["local"], False)

@@ -1,8 +1,9 @@
 """Cases: the bytes that a watcher passes on."""
 from __future__ import annotations
 
-import json
+import marshal
 import os
+import pathlib
 import random
 import subprocess
 import sys
@@ -36,7 +37,7 @@ while piece := os.read(0, chance.choice([1, 7, 5000, 100000])):
             whole = b"".join(frames)
             config = {"events": f"events.{form}", "logs": ".", "rooms": "", "stop": "stop", "stops": False, "limit": 0.0, "keep": 0.0,
                       "tools": "", "local": False, "in_turn": False, "start": ".", "form": form, "kind": "Echo", "names": {}, "alone": False}
-            self.put("config", json.dumps(config))
+            pathlib.Path("config").write_bytes(marshal.dumps(config))
             program = subprocess.Popen([sys.executable, "-I", "-S", str(TOP / "tools" / "front" / "watcher.py"), "config",
                                         os.path.abspath("echo"), "--persistent_worker"], stdin=subprocess.PIPE, stdout=subprocess.PIPE)
             assert program.stdin is not None and program.stdout is not None

@@ -1,8 +1,11 @@
 """Cases of workers that outlive a run."""
 from __future__ import annotations
 
+import fcntl
 import os
 import pathlib
+import shutil
+import socket
 import subprocess
 import sys
 
@@ -114,6 +117,62 @@ class Kept(Folder):
         self.front("--keep=900")
         self.assertEqual(len(self.pids()), 2)
         self.assertIn(first[0], self.pids())
+
+    def test_another_folder_at_the_same_path(self) -> None:
+        """Checks that a worker isn't found in a new folder at the path of one that was moved away."""
+        self.put("project/src/0", "")
+        os.chdir("project")
+        self.worker()
+        self.write_list(self.actions(1))
+        self.front("--keep=900")
+        first = self.pids()
+        os.chdir(self.folder)
+        os.rename("project", "moved")
+        shutil.copytree("moved", "project", ignore=shutil.ignore_patterns(".lenthuvi", ".worker_rooms", "out"))
+        os.chdir("project")
+        self.assertIn("1 action made", self.front("--keep=900"))
+        self.assertEqual((len(self.pids()), first[0] in self.pids()), (2, True))
+
+    def test_another_environment(self) -> None:
+        """Checks that a worker whose environment differs isn't used."""
+        self.worker("text = os.environ['MODE']\nwords['add'] = os.environ['MODE']")
+        for mode in ("one", "two"):
+            self.write_list(self.actions(1, env={"MODE": mode}))
+            self.front("--keep=900")
+            self.assertEqual(pathlib.Path("out/0").read_text(), f"source 0\n{mode}")
+        self.assertEqual(len(self.pids()), 2)
+
+    def test_another_version_of_a_file_that_its_words_name(self) -> None:
+        """Checks that a worker isn't used if a library that its start words name by a whole path has changed, as when a package is updated."""
+        self.worker("words['add'] = library")
+        source = pathlib.Path("worker")
+        source.write_text(source.read_text().replace("answered = 0\n", "answered = 0\nlibrary = open(sys.argv[1].split(':')[1]).read()\n", 1))
+        actions = self.actions(1)
+        actions[0]["argv"] = ["worker", f"--path={self.folder}/none:{self.folder}/library", "@flags/0"]
+        self.write_list(actions)
+        for text in ("old", "new"):
+            self.put("library", text)
+            self.assertIn("1 action made", self.front("run", "--keep=900"))
+            self.assertEqual(pathlib.Path("out/0").read_text(), f"source 0\n{text}")
+
+    def test_an_end_that_meets_a_new_keeper(self) -> None:
+        """Checks that a keeper whose time is over leaves the folder alone if another one has taken it over."""
+        self.worker()
+        self.write_list(self.actions(1))
+        self.front("--keep=2")
+        workers = self.pids()
+        home = next(pathlib.Path(".lenthuvi").glob("kept-*"))
+        path = next(it for it in pathlib.Path("kept").iterdir() if it.is_socket())
+        with open("kept/.lock", "ab") as lock:
+            fcntl.flock(lock, fcntl.LOCK_EX)
+            self.until(lambda: not any(it in self.sleepers(self.folder) for it in workers))
+            path.unlink()
+            with socket.socket(socket.AF_UNIX) as line:
+                line.bind(str(path))
+                (home / "of another").touch()
+                fcntl.flock(lock, fcntl.LOCK_UN)
+                self.until(lambda: not self.sleepers(self.folder + "/.lenthuvi"))
+                self.assertTrue((home / "of another").exists() and path.exists())
 
     def test_another_user_has_none_of_it(self) -> None:
         """Checks that only the user may use the folder of the sockets. A folder that others may use, or a link, is refused."""

@@ -8,6 +8,11 @@ import time
 
 from case import Folder
 
+from front.digests import Files, stamp_of
+from front.listing import load
+from front.options import Words
+from front.settled import settle
+
 
 class Rounds(Folder):
     """Cases of rounds and of the memory of successes."""
@@ -187,6 +192,49 @@ class Rounds(Folder):
                 pathlib.Path(".lenthuvi", name).write_text(text)
             self.assertIn("2 actions made", self.front())
             self.assertIn("2 up to date", self.front())
+
+    def test_a_source_that_changes_while_all_is_looked_at(self) -> None:
+        """Checks that the stamps aren't kept if the list has changed since the call began, and that those of other files are old ones."""
+        self.worker()
+        self.write_list(self.actions(2))
+        self.front()
+        time.sleep(0.1)
+        settled = pathlib.Path(".lenthuvi/lists/list/settled")
+        for seconds, is_kept in ((0.0, True), (60.0, False)):
+            listing, files = load("list.json"), Files(".lenthuvi/stamps")
+            files.digests(path for it in listing.actions for path in (*it.reads(), *it.outputs))
+            settle(listing, Words("build"), listing.actions, files, seconds)
+            self.assertEqual(settled.exists(), is_kept)
+        files.digests(["src/0"])
+        self.put("src/0", "other\n")
+        settle(listing, Words("build"), listing.actions, files, 0.0)
+        self.assertIn("1 action made", self.front())
+
+    def test_each_change_after_nothing_to_do(self) -> None:
+        """Checks that the stamps that were noted hide no change."""
+        self.worker()
+        self.write_list(self.actions(2))
+        self.front()
+        for path, text in (("", ""), ("out/1", "spoiled\n"), ("src/1", "more\n"), ("flags/0", "out=out/0\nadd=x\n"), ("worker", "")):
+            time.sleep(0.1)
+            self.front()
+            self.assertTrue(os.path.exists(".lenthuvi/lists/list/settled"))
+            if text:
+                self.put(path, text)
+            elif path:
+                self.worker("text = 'other'", path)
+            self.assertIn("2 actions made" if path == "worker" else "1 action made" if path else "nothing to do, 2 up to date", self.front())
+
+    def test_stamp_of_a_young_file(self) -> None:
+        """Checks that a file that was read right after it was written has a sure stamp later, and never that of another content."""
+        files = Files(".lenthuvi/stamps")
+        for path in ("same", "changed"):
+            self.put(path, "text\n")
+            files.digest(path)
+        self.put("changed", "other\n")
+        time.sleep(0.1)
+        self.assertEqual(files.sure_stamp("same"), stamp_of("same"))
+        self.assertNotEqual(files.sure_stamp("changed"), stamp_of("changed"))
 
     def test_list_names_that_are_the_states_own(self) -> None:
         self.worker()

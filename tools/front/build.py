@@ -51,8 +51,8 @@ class Build:
         self.open_path = os.path.join(listing.state, "open")
         self.files = Files(os.path.join(STATE, "stamps"))
         self.memory = Memory(os.path.join(listing.state, "memory"))
-        flags = words.all("--extra-flag")
-        self.shapes = {it.name: it.shape(flags) for it in self.actions}
+        self.flags = words.all("--extra-flag")
+        self.shapes = {it.name: it.shape(self.flags) for it in self.actions}
         self.results: dict[str, Reported] = {}
         self.reasons: dict[str, str] = {}
         self.slow: set[str] = set()
@@ -65,6 +65,7 @@ class Build:
         self.at_once = listing.origin is not None and not words.number("--keep", 0)
         self.status = 0
         self.lost = False
+        self.all_remembered = True  # no success was left out because a source changed meanwhile
         self.done = self.failures = 0
         self.pids: set[int] = set()
         self.total = self.calls = self.early = 0
@@ -171,7 +172,7 @@ class Build:
         if interrupt.number and code:
             os.remove(self.open_path)
             return False
-        self.take_action(found, (begun, time.time(), 0), sink)
+        sink.keep([self.take_action(found, (begun, time.time(), 0))])
         self.remember({action.name} if code == 0 else set(), False)
         os.remove(self.open_path)
         self.done, self.failures, self.status = self.done + 1, self.failures + bool(code), max(self.status, int(bool(code)))
@@ -242,7 +243,7 @@ class Build:
             sink.begin()
             for name in ("keys", "logs"):
                 shutil.rmtree(os.path.join(self.listing.state, name), ignore_errors=True)
-            sink.put({"t": time.time(), "e": "run", "list": self.listing.path, "actions": len(self.actions)}, keeps=True)
+            sink.keep([{"t": time.time(), "e": "run", "list": self.listing.path, "actions": len(self.actions)}])
 
     def write_list(self, chosen: programs.Chosen, actions: list[Action], turns: Turns | None) -> tuple[str, list[str]]:
         """Writes the list for the program. Returns its path and the command."""
@@ -344,20 +345,17 @@ class Build:
         for kind, events in tracker.unclaimed().items():
             self.unclaimed.setdefault(kind, []).extend(events)
         self.said += ended.said
-        for name, it in found.items():
-            self.take_action(it, tracker.times.get(name, (0.0, 0.0, 0)), sink)
+        sink.keep(self.take_action(it, tracker.times.get(name, (0.0, 0.0, 0))) for name, it in found.items() if it.outcome != "open")
 
-    def take_action(self, it: Reported, times: tuple[float, float, int], sink: Sink) -> None:
-        """Takes in the result of an action. Shows the output of a project's command, as ninja does."""
-        if it.outcome == "open":
-            return
+    def take_action(self, it: Reported, times: tuple[float, float, int]) -> Event:
+        """Takes in the result of an action, and returns its event. Shows the output of a project's command, as ninja does."""
         if it.outcome != "skipped" and it.name not in self.held_back:
             self.results[it.name] = it
         if self.listing.origin is not None and it.outcome == "ok" and it.text.strip() and not self.words.has("-q"):
             self.voice.line("\n".join([f"{it.name}:", *short(it.text)]))
-        sink.put({"t": time.time(), "e": "action", "n": it.name, "mnemonic": self.by_name[it.name].mnemonic, "round": self.calls, "outcome": it.outcome,
-                  "detail": it.detail, "local": it.local, "remote": it.remote, "why": self.reasons.get(it.name, ""),
-                  "sent": times[0], "answered": times[1], "worker": times[2], "text": it.text[:MOST_TEXT]}, keeps=True)
+        return {"t": time.time(), "e": "action", "n": it.name, "mnemonic": self.by_name[it.name].mnemonic, "round": self.calls, "outcome": it.outcome,
+                "detail": it.detail, "local": it.local, "remote": it.remote, "why": self.reasons.get(it.name, ""),
+                "sent": times[0], "answered": times[1], "worker": times[2], "text": it.text[:MOST_TEXT]}
 
     def tell_refusal(self, name: str, ended: Ended, is_whole: bool) -> None:
         """Prints that a program ended early, and what it printed. A run that ran out of memory may have written a report."""
@@ -374,7 +372,7 @@ class Build:
         made = {path for it in actions for path in it.outputs}
         sources = self.files.digests({path for it in actions for path in it.may_read() if path not in made})
         held = {"place": os.path.getsize(self.events_path) if os.path.exists(self.events_path) else 0, "sources": sources,
-                "flags": self.words.all("--extra-flag"),
+                "flags": self.flags,
                 "actions": {it.name: [self.shapes[it.name], [stamp_of(path) for path in it.outputs]] for it in actions}}
         write_whole(self.open_path, json.dumps(held))
         stop = os.path.join(self.listing.state, "stop")
@@ -398,7 +396,7 @@ class Build:
         new_outputs: set[str] = set()
         for it in self.listing.actions:
             before = held["actions"].get(it.name)
-            if before is None or it.name not in good or before[0] != it.shape(held["flags"]):
+            if before is None or it.name not in good or before[0] != self.shape(it, held["flags"]):
                 continue
             if looks and not all(is_new(path, stamp) for path, stamp in zip(it.outputs, before[1])):
                 continue
@@ -406,7 +404,17 @@ class Build:
                 found[it.name] = success_of(it, before[0], self.files)
                 new_outputs.update(it.outputs)
         self.memory.add(found)
+        self.all_remembered &= found.keys() >= good
         return len(found)
+
+    def shape(self, action: Action, flags: list[str]) -> str:
+        """Returns the digest of an action with these extra flags."""
+        known = self.shapes.get(action.name) if flags == self.flags else None
+        return known or action.shape(flags)
+
+    def knows_all(self) -> bool:
+        """Returns True if each success of this call is remembered, and no action runs each time."""
+        return self.all_remembered and not any(it.always() for it in self.actions)
 
     def recover(self) -> int:
         """Remembers the successes of a run that was killed. Returns how many there are."""

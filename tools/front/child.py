@@ -4,12 +4,14 @@ from __future__ import annotations
 import ctypes
 import fcntl
 import os
-import signal
 import termios
 
 TYPE_CHECKING = False
 if TYPE_CHECKING:
+    import signal
     import socket
+else:
+    import _signal as signal  # signal would load enum
 
 PR_SET_PDEATHSIG = 1
 CANT_START = 127

@@ -8,6 +8,7 @@ import time
 from typing import Iterable
 
 Stamp = tuple[int, int, int, int]
+PIECE = 1 << 16
 YOUNG = 50_000_000  # ns: a file that changed so shortly before it was read may change again within one tick of its times
 
 
@@ -17,17 +18,35 @@ def stamp_of(path: str) -> Stamp | None:
         held = os.stat(path)
     except (OSError, ValueError):
         return None
-    if not stat.S_ISREG(held.st_mode):
-        return None
+    return of_stat(held) if stat.S_ISREG(held.st_mode) else None
+
+
+def of_stat(held: os.stat_result) -> Stamp:
+    """Returns size, mtime, ctime and inode of what the system tells about a file."""
     return held.st_size, held.st_mtime_ns, held.st_ctime_ns, held.st_ino
 
 
-def write_whole(path: str, text: str) -> None:
+def digest_of(path: str, stamp: Stamp) -> tuple[str, bool]:
+    """Returns the digest of a file, and whether the file still had this stamp after it was read.
+
+    It makes the system's calls itself: for a small file, a file object costs more than reading.
+    """
+    fd = os.open(path, os.O_RDONLY | os.O_CLOEXEC)
+    try:
+        digest = hashlib.sha256(os.read(fd, PIECE))
+        while piece := os.read(fd, PIECE):
+            digest.update(piece)
+        return digest.hexdigest()[:40], stamp == of_stat(os.fstat(fd))
+    finally:
+        os.close(fd)
+
+
+def write_whole(path: str, content: str | bytes) -> None:
     """Replaces a file by a new one, whole or not at all."""
     part = f"{path}.part"
     try:
-        with open(part, "w", encoding="utf-8", errors="surrogateescape") as file:
-            file.write(text)
+        with open(part, "wb") as file:
+            file.write(content if isinstance(content, bytes) else content.encode("utf-8", "surrogateescape"))
         os.replace(part, path)
     except OSError:
         try:
@@ -71,16 +90,25 @@ class Files:
         """Reads a file. Its digest is remembered if the file can't have changed meanwhile."""
         begun = time.time_ns()
         try:
-            with open(path, "rb") as file:
-                digest = hashlib.file_digest(file, "sha256").hexdigest()[:40]
+            digest, is_same = digest_of(path, stamp)
         except OSError:
             return None
         self.is_new = True
-        if max(stamp[1], stamp[2]) + YOUNG < begun and stamp_of(path) == stamp:
+        if is_same and max(stamp[1], stamp[2]) + YOUNG < begun:
             self.known[path] = stamp, digest
         else:
             self.known.pop(path, None)
         return digest
+
+    def sure_stamp(self, path: str) -> Stamp | None:
+        """Returns the stamp at which a file had the digest that was found for it, or None if it may change without another stamp."""
+        found = self.seen.get(path)
+        if found is not None and path not in self.known:
+            # It was young when it was read, and may be old enough by now.
+            stamp = stamp_of(path)
+            found = found if stamp is not None and self.read(path, stamp) == found else None
+        known = self.known.get(path)
+        return known[0] if known is not None and known[1] == found else None
 
     def digests(self, paths: Iterable[str]) -> dict[str, str | None]:
         """Returns the digests of several files."""

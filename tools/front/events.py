@@ -5,9 +5,9 @@ import json
 import os
 import sys
 import time
-from typing import Any, TextIO
+from typing import Any, Iterable, TextIO
 
-from .follow import Event
+from .follow import Event, events_of
 
 NAMES = {"n": "name", "w": "watcher"}
 
@@ -31,13 +31,21 @@ class Sink:
                 os.replace(self.own_path, self.own_path + ".before")
             self.own_file = open(self.own_path, "ab", buffering=0)
 
-    def put(self, event: Event, keeps: bool = False) -> None:
-        """Copies an event; with `keeps` it also goes into the run's own file, if there is one."""
-        if keeps and self.own_file is not None:
+    def keep(self, events: Iterable[Event]) -> None:
+        """Writes events into the run's own file, if there is one, all at once. Copies them."""
+        held = list(events)
+        if self.own_file is not None:
+            lines = "".join(json.dumps(it) + "\n" for it in held).encode()
             try:
-                self.own_file.write(json.dumps(event).encode() + b"\n")
+                while lines:
+                    lines = lines[self.own_file.write(lines):]
             except OSError as error:
                 self.trouble = f"{self.own_path}: {error.strerror}"
+        for it in held if self.out is not None else ():
+            self.put(it)
+
+    def put(self, event: Event) -> None:
+        """Copies an event, if a copy is wanted."""
         if self.out is not None:
             told = {NAMES.get(key, key): value for key, value in event.items()}
             told["t"] = round(event["t"] - self.begun, 4)
@@ -58,14 +66,14 @@ def read_events(state: str) -> list[Event]:
     """Returns the events of the last run in the order of their times, without lines that were cut off."""
     found = []
     try:
-        with open(os.path.join(state, "events.jsonl"), encoding="utf-8", errors="replace") as file:
-            for line in file:
-                try:
-                    event = json.loads(line)
-                    event["t"] = float(event["t"])
-                    found.append(event)
-                except (ValueError, KeyError, TypeError):
-                    continue
+        with open(os.path.join(state, "events.jsonl"), "rb") as file:
+            lines = file.read().split(b"\n")
+        for event in events_of(lines):
+            try:
+                event["t"] = float(event["t"])
+                found.append(event)
+            except (ValueError, KeyError, TypeError):
+                continue
     except FileNotFoundError:
         pass
     return sorted(found, key=lambda it: float(it["t"]))

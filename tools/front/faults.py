@@ -4,7 +4,6 @@ docs/FORMATS.md has the rules. worker_tool doesn't depend on this: it reads the 
 """
 from __future__ import annotations
 
-import difflib
 import json
 import os
 import re
@@ -21,6 +20,7 @@ PATHS = ("tools", "inputs", "outputs")
 MOST = {"argv": 1024, "env": 256, "tools": 256, "inputs": 4096, "outputs": 256, "requirements": 64}
 MOST_PATH_BYTES, MOST_DEPTH = 4096, 16
 RESERVED, PART = ("__sandbox", ".worker_rooms"), ".worker_tool."
+TEXTS = {str}
 FLAG_WORD = re.compile(r"(@|--?flagfile=).", re.DOTALL)
 
 
@@ -30,6 +30,8 @@ class Unreadable(Exception):
 
 def near(word: str, known: tuple[str, ...]) -> str:
     """Returns a hint at the known word that is most like another one, or nothing."""
+    import difflib  # few lists need it
+
     found = difflib.get_close_matches(word, known, 1)
     return f'; did you mean "{found[0]}"?' if found else ""
 
@@ -113,8 +115,8 @@ def is_kind(key: str, value: Any) -> bool:
     if key in ("name", "mnemonic", "strategy"):
         return isinstance(value, str)
     if key in ("env", "requirements"):
-        return isinstance(value, dict) and all(isinstance(it, str) for it in value.values())
-    return isinstance(value, list) and all(isinstance(it, str) for it in value)
+        return isinstance(value, dict) and set(map(type, value.values())) <= TEXTS
+    return isinstance(value, list) and set(map(type, value)) <= TEXTS
 
 
 KINDS = {"env": "an object of strings", "requirements": 'an object of strings, for example {"supports-workers": "1"}',

@@ -6,6 +6,7 @@ answer is owed. If a client goes without a last `i`, a request was cut off, and 
 from __future__ import annotations
 
 import array
+import contextlib
 import fcntl
 import hashlib
 import json
@@ -16,10 +17,11 @@ import socket
 import stat
 import struct
 import time
-from typing import Any, Callable, NamedTuple
+from typing import Any, Callable, Iterator, NamedTuple
 
 from . import child as children
 from .child import Child
+from .digests import stamp_of
 from .home import empty
 
 STATE = ".lenthuvi"
@@ -53,9 +55,26 @@ class Wanted(NamedTuple):
 
     def home(self, slot: int) -> str:
         """Returns the folder in which the slot's worker stays, two levels below the start folder as a room is."""
-        program = os.stat(self.words[0])
-        parts = [self.words, sorted(self.environment.items()), self.form, self.tools, program.st_size, program.st_mtime_ns, program.st_ino]
+        stamps = [stamp_of(path) for path in named_files(self.words)]
+        parts = [self.words, sorted(self.environment.items()), self.form, self.tools, stamps]
         return os.path.join(self.start, STATE, f"kept-{hashlib.sha256(json.dumps(parts).encode()).hexdigest()[:16]}.{slot}")
+
+
+def named_files(words: list[str]) -> list[str]:
+    """Returns the files that words name by absolute paths: the program, a script, the jars of a class path."""
+    paths = (path for word in words for path in word.replace("=", ":").split(":"))
+    return [path for path in paths if path.startswith("/") and os.path.isfile(path)]
+
+
+@contextlib.contextmanager
+def locked(base: str) -> Iterator[None]:
+    """Holds the lock of the folder of the sockets. Only its holder starts a keeper or removes what one has left."""
+    lock = os.open(os.path.join(base, ".lock"), os.O_RDWR | os.O_CREAT | os.O_CLOEXEC, 0o600)
+    try:
+        fcntl.flock(lock, fcntl.LOCK_EX)
+        yield
+    finally:
+        os.close(lock)
 
 
 def address(base: str, home: str) -> str:
@@ -69,9 +88,7 @@ def find(base: str, wanted: Wanted, idle: float, most: int, words_in: Callable[[
 
     `words_in` returns the arguments that start a worker in a folder.
     """
-    lock = os.open(os.path.join(base, ".lock"), os.O_RDWR | os.O_CREAT | os.O_CLOEXEC, 0o600)
-    try:
-        fcntl.flock(lock, fcntl.LOCK_EX)
+    with locked(base):
         for slot in range(MOST_SLOTS):
             home = wanted.home(slot)
             os.makedirs(home, mode=0o700, exist_ok=True)
@@ -85,9 +102,7 @@ def find(base: str, wanted: Wanted, idle: float, most: int, words_in: Callable[[
                     make_room(base, most - 1, float("inf"))
                 begun = start(path, words_in(home), wanted.environment, idle, home)
                 return (begun, home) if begun is not None else None
-        return None
-    finally:
-        os.close(lock)
+    return None
 
 
 def is_own(line: socket.socket) -> bool:
@@ -163,7 +178,7 @@ class Keeper:
 
     def __init__(self, server: socket.socket, path: str, words: list[str], environment: dict[str, str], idle: float) -> None:
         self.server, self.path, self.words, self.idle = server, path, words, idle
-        self.inode = os.stat(path).st_ino
+        self.mark = mark_of(path)
         self.worker = children.start(words, environment)
         self.client: socket.socket | None = None
         self.is_owed = False
@@ -182,24 +197,19 @@ class Keeper:
             while self.step():
                 pass
         finally:
-            self.remove_socket()
-            self.worker.kill()
-            self.remove_home()
+            self.leave()
 
-    def remove_socket(self) -> None:
-        """Removes the socket, unless another keeper has already replaced it."""
+    def leave(self) -> None:
+        """Ends the worker, and removes its socket and its folder, unless another keeper has taken them over by now."""
+        self.server.close()  # A client that comes now is refused at once, and starts another keeper.
+        self.worker.kill()
         try:
-            if os.stat(self.path).st_ino == self.inode:
-                os.unlink(self.path)
-        except OSError:
-            pass
-
-    def remove_home(self) -> None:
-        """Removes the folder in which the worker stayed."""
-        try:
-            home = os.getcwd()
-            empty(home)
-            os.rmdir(home)
+            with locked(os.path.dirname(self.path)):
+                if mark_of(self.path) == self.mark:
+                    os.unlink(self.path)
+                    home = os.getcwd()
+                    empty(home)
+                    os.rmdir(home)
         except OSError:
             pass
 
@@ -286,6 +296,12 @@ class Keeper:
                 self.client.sendall(array.array("i", [status]).tobytes())
             except OSError:
                 pass
+
+
+def mark_of(path: str) -> tuple[int, int]:
+    """Returns what tells a socket from a later one at the same path. An inode alone may be used again."""
+    held = os.stat(path)
+    return held.st_ino, held.st_ctime_ns
 
 
 def memory_of(pid: int) -> int:

@@ -15,8 +15,12 @@ from .voice import plural, quoted
 WORKERS = os.path.join(os.path.dirname(os.path.dirname(os.path.realpath(__file__))), "workers")
 # Node can't move descriptors, so a shell puts the answers elsewhere than what is printed.
 NODE = ["/bin/sh", "-c", 'exec "$@" 3>&1 1>&2', "sh"]
-NEEDS = {"supports-workers": "1", "requires-worker-protocol": "json"}
+NEEDS = {"supports-workers": "1"}
+LINES = {**NEEDS, "requires-worker-protocol": "json"}
 LEFT_OUT = (STATE, ".worker_rooms", "node_modules", "flags", "out", ".git")
+
+
+Actions = Callable[[list[str], list[str]], Iterator[tuple[str, list[str], list[str], list[str]]]]
 
 
 class Kind(NamedTuple):
@@ -27,7 +31,25 @@ class Kind(NamedTuple):
     packages: str
     start: Callable[[], list[str]]
     env: dict[str, str]
-    actions: Callable[[list[str], list[str]], Iterator[tuple[str, list[str], list[str], list[str]]]]
+    actions: Actions
+    needs: dict[str, str] = LINES
+
+
+def home_of(tool: str) -> str:
+    """Returns the folder of a compiler of the JVM, which an environment variable may replace."""
+    return os.environ.get(*{"scalac": ("SCALA_HOME", "/usr/share/scala-2.11"), "kotlinc": ("KOTLIN_HOME", "/usr/share/kotlin/kotlinc")}[tool])
+
+
+def jvm_start(tool: str, *jars: str) -> list[str]:
+    """Returns the words that start the worker of a compiler of the JVM, with these jars of its folder."""
+    java = shutil.which("java")
+    found = {it: sorted(glob.glob(os.path.join(home_of(tool), "lib", it))) for it in jars}
+    missing = "java" if java is None else next((os.path.join(home_of(tool), "lib", it) for it, paths in found.items() if not paths), "")
+    if java is None or missing:
+        raise Unwanted(f"{missing} isn't there")
+    places = ":".join(path for paths in found.values() for path in paths)
+    return [java, "-XX:+UseSerialGC", "-XX:TieredStopAtLevel=1", "-Xss8m", "-Dkotlin.environment.keepalive=true", "-cp", places,
+            os.path.join(WORKERS, "JvmWorker.java"), tool]
 
 
 def node_start(worker: str, name: str, place: str) -> list[str]:
@@ -45,6 +67,17 @@ def tsc_actions(sources: list[str], settings: list[str]) -> Iterator[tuple[str, 
     yield "tsc", words, [*sources, *settings], made
 
 
+def scalac_actions(sources: list[str], settings: list[str]) -> Iterator[tuple[str, list[str], list[str], list[str]]]:
+    """Yields one action: the whole program as one jar."""
+    yield "scalac", ["--jar=out/program.jar", "-usejavacp", *sources], [*sources, *settings], ["out/program.jar"]
+
+
+def kotlinc_actions(sources: list[str], settings: list[str]) -> Iterator[tuple[str, list[str], list[str], list[str]]]:
+    """Yields one action: the whole program as one jar."""
+    words = ["--jar=out/program.jar", "-kotlin-home", home_of("kotlinc"), *sources]
+    yield "kotlinc", words, [*sources, *settings], ["out/program.jar"]
+
+
 def eslint_actions(sources: list[str], settings: list[str]) -> Iterator[tuple[str, list[str], list[str], list[str]]]:
     """Yields an action for each source, whose output is the report."""
     for it in sources:
@@ -58,6 +91,10 @@ KINDS = {
     "eslint": Kind((".js",), (".eslintrc.json", ".eslintrc.js", ".eslintrc", "package.json"), "eslint",
                    lambda: node_start("eslint_worker.js", "ESLINT", "/usr/share/nodejs/eslint"),
                    {"PATH": "/usr/bin:/bin", "NODE_PATH": "/usr/share/nodejs", "HOME": "/nonexistent"}, eslint_actions),
+    "scalac": Kind((".scala",), (), "scala", lambda: jvm_start("scalac", "*.jar"), {"PATH": "/usr/bin:/bin"}, scalac_actions, NEEDS),
+    "kotlinc": Kind((".kt",), (), "kotlin",
+                    lambda: jvm_start("kotlinc", "kotlin-compiler.jar", "kotlin-stdlib.jar", "kotlin-script-runtime.jar", "kotlin-reflect.jar",
+                                      "trove4j.jar", "annotations-13.0.jar"), {"PATH": "/usr/bin:/bin"}, kotlinc_actions, NEEDS),
 }
 
 
@@ -87,7 +124,7 @@ def init_kind(name: str, folder: str) -> int:
     if not sources:
         raise Unwanted(f"there is no {' or '.join(kind.endings)} below {folder}; nothing was written")
     env = {**kind.env, **{it: os.environ[it] for it in ("TSC", "ESLINT", "NODE_PATH") if it in os.environ}}
-    objects = [action_of(name, start, env, *it) for it in kind.actions(sources, settings)]
+    objects = [action_of(name, kind, start, env, *it) for it in kind.actions(sources, settings)]
     for it in objects:
         for key in ("inputs", "outputs"):
             if len(it[key]) >= MOST[key]:  # an input more will be its words
@@ -107,7 +144,8 @@ def init_kind(name: str, folder: str) -> int:
     return 0
 
 
-def action_of(name: str, start: list[str], env: dict[str, str], source: str, _: list[str], inputs: list[str], outputs: list[str]) -> dict[str, Any]:
+def action_of(name: str, kind: Kind, start: list[str], env: dict[str, str], source: str, _: list[str], inputs: list[str],
+              outputs: list[str]) -> dict[str, Any]:
     """Returns an action, still without its flag file."""
     return {"name": source.replace(" ", "_"), "mnemonic": name.capitalize(), "argv": [*start], "env": env, "inputs": [*inputs], "outputs": outputs,
-            "requirements": NEEDS}
+            "requirements": kind.needs}

@@ -1,6 +1,7 @@
 """The faults of a list as a whole: keys that are doubled, names and outputs that collide, cycles, outputs that replace the run's own state."""
 from __future__ import annotations
 
+import functools
 import json
 import os
 from typing import Any, Iterator
@@ -92,21 +93,28 @@ def cycle_of(actions: list[dict[str, Any]]) -> list[str]:
 def state_faults(actions: list[dict[str, Any]], path: str) -> Iterator[str]:
     """Yields outputs that would replace the list, a program, a source or the run's own folders, or that are below one another."""
     made = {out for it in actions for out in held(it, "outputs")}
+    own = "" if path == "-" else os.path.normpath(os.path.relpath(path))
     programs: set[str] = set()
     for number, it in enumerate(actions):
-        programs.update(os.path.normpath(word) for word in held(it, "argv")[:1])
+        programs.update(shortest(word) for word in held(it, "argv")[:1])
         for out in held(it, "outputs"):
-            trouble = state_trouble(out, path, programs, made)
+            trouble = state_trouble(out, own, programs, made)
             if trouble:
                 yield f"{place(number, it)}.outputs: {out} {trouble}"
 
 
-def state_trouble(out: str, path: str, programs: set[str], made: set[str]) -> str:
-    """Returns why an output would replace what the run needs, or nothing."""
+@functools.cache
+def shortest(path: str) -> str:
+    """Returns a path in its shortest form. Most actions of a list have the same program."""
+    return os.path.normpath(path)
+
+
+def state_trouble(out: str, own: str, programs: set[str], made: set[str]) -> str:
+    """Returns why an output would replace what the run needs, or nothing. `own` is the list's path, if it has one."""
     front = out.split("/", 1)[0]
     if front in OWN_FOLDERS:
         return f"is in {front}, which belongs to the run"
-    if path != "-" and out == os.path.normpath(os.path.relpath(path)):
+    if out == own:
         return "is the list itself"
     if out in programs:
         return "is the program of an action that doesn't wait for it"

@@ -13,7 +13,9 @@ from .list_faults import list_faults, state_faults
 
 Json = dict[str, Any]
 WANTED = ("name", "mnemonic", "argv", "outputs")
+USED = (*WANTED, "inputs", "tools", "requirements", "env", "strategy")
 STATE = ".lenthuvi"
+spelt = json.JSONEncoder(sort_keys=True).encode  # `json.dumps` would make an encoder for each action
 IMPORTED = ".imported"  # the folder, in a build folder, that an import writes
 
 
@@ -83,12 +85,12 @@ class Action:
             flags = [needs.get(f"supports-{it}", "") for it in ("multiplex-workers", "multiplex-sandboxing", "worker-cancellation")]
             parts = [needs.get("worker-key-mnemonic", self.mnemonic), self.start_words(), self.object.get("env", {}), self.tools,
                      self.form(), flags, self.strategy == "dynamic"]
-            self.known_key = json.dumps(parts, sort_keys=True)
+            self.known_key = spelt(parts)
         return self.known_key
 
     def shape(self, flags: list[str]) -> str:
         """Returns a digest of its object in the list and of the extra flags."""
-        return hashlib.sha256(json.dumps([self.object, flags], sort_keys=True).encode()).hexdigest()[:32]
+        return hashlib.sha256(spelt([self.object, flags]).encode()).hexdigest()[:32]
 
 
 class Origin:
@@ -214,4 +216,4 @@ def is_imported(path: str) -> bool:
 def is_plain(held: Any) -> bool:
     """Returns True if an action has the keys that the front needs, and the keys that it uses have the right kinds."""
     return isinstance(held, dict) and all(it in held for it in WANTED) and bool(held["argv"]) and all(
-        is_kind(key, held[key]) for key in (*WANTED, "inputs", "tools", "requirements", "env", "strategy") if key in held)
+        is_kind(key, held[key]) for key in USED if key in held)

@@ -121,9 +121,9 @@ def run(made: Build, words: Words, voice: Voice) -> int:
         status = made.run(interrupt, sink)
         voice.erase()
         counts = summary(made, voice, status)
-        sink.put({"t": time.time(), "e": "done", "status": status, "seconds": round(voice.seconds(), 3), **counts}, keeps=True)
-        if status == 0 and counts["up_to_date"] == len(made.actions):
-            settle(made.listing, words, len(made.actions))
+        sink.keep([{"t": time.time(), "e": "done", "status": status, "seconds": round(voice.seconds(), 3), **counts}])
+        if status == 0 and counts["ok"] + counts["up_to_date"] == len(made.actions) and made.knows_all():
+            settle(made.listing, words, made.actions, made.files, voice.seconds())
         status = write_views(made, words, sink.trouble, voice) or status
     finally:
         voice.erase()

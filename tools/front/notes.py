@@ -1,17 +1,28 @@
 """A watcher's traffic outside its pipes: it appends lines to the run's events, and asks the front for turns.
 
-Each worker starts a watcher, so these modules load little: they don't import `dataclasses`, `typing` or `re`.
+Each worker starts a watcher, so these modules load little: they don't import `typing`, `enum` or `re`, nor what imports these.
 """
 from __future__ import annotations
 
-import json
 import os
-import socket
 import time
 
 TYPE_CHECKING = False
 if TYPE_CHECKING:
     from typing import Any
+
+    def spelt(text: str) -> str: ...
+else:
+    from _json import encode_basestring_ascii as spelt  # json would load re
+
+
+def spelt_value(value: Any) -> str:
+    """Returns a value of an event in JSON: a string, a number, a truth value, or a list of such."""
+    if isinstance(value, str):
+        return spelt(value)
+    if isinstance(value, bool):
+        return "true" if value else "false"
+    return repr(value) if isinstance(value, (int, float)) else "[" + ", ".join(map(spelt_value, value)) + "]"
 
 
 class Notes:
@@ -24,11 +35,12 @@ class Notes:
 
     def add(self, what: str, **more: Any) -> None:
         """Appends an event."""
-        self.write(json.dumps({"t": round(time.time(), 4), "e": what, "w": self.pid, **more}))
+        rest = "".join(f', "{key}": {spelt_value(it)}' for key, it in more.items())
+        self.write(f'{{"t": {time.time():.4f}, "e": "{what}", "w": {self.pid}{rest}}}')
 
     def add_of(self, what: str, name: str, number: int, more: str = "") -> None:
-        """Appends an event of a request. It builds the text directly, since each request has two events."""
-        self.write(f'{{"t": {time.time():.4f}, "e": "{what}", "w": {self.pid}, "n": {json.dumps(name)}, "id": {number}{more}}}')
+        """Appends an event of a request. Each request has two, so this is the short way."""
+        self.write(f'{{"t": {time.time():.4f}, "e": "{what}", "w": {self.pid}, "n": {spelt(name)}, "id": {number}{more}}}')
 
     def write(self, line: str) -> None:
         """Appends a line. On a full disk the line is lost, and the next one begins on a new line."""
@@ -46,6 +58,8 @@ class Turns:
     """
 
     def __init__(self, address: str) -> None:
+        import socket  # few watchers need it
+
         self.free = self.asked = 0
         self.has_front = True
         self.line = socket.socket(socket.AF_UNIX, socket.SOCK_STREAM)

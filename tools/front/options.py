@@ -46,7 +46,7 @@ COMMANDS = (
     Command("page", "[LIST]", 1, "the last run by the clock, for a browser"),
     Command("graph", "[LIST]", 1, "what needs what: all of it, or --deps=NAME, --rdeps=PATH"),
     Command("import", "ninja FOLDER", 2, "take over a build of ninja's, as CMake and meson write it; then build FOLDER"),
-    Command("init", "[TOOL] [FOLDER]", 2, "write a first worker and list, or a list for tsc or eslint"),
+    Command("init", "[TOOL] [FOLDER]", 2, "write a first worker and list, or a list for a tool"),
     Command("doctor", "", 0, "programs, limits and rights in this folder"),
     Command("workers", "", 0, "workers that are kept; --end ends them"),
     Command("clean", "[LIST]", 1, "remove rooms, logs and what is remembered"),

@@ -71,7 +71,7 @@ class Clock:
 
     def began(self, watcher: int, event: Event, at: float) -> None:
         """Notes a start, in the row of its slot."""
-        key = event["kind"], event["room"]
+        key = event["kind"], slot_of(event["room"])
         row = self.places.setdefault(key, len(self.rows))
         if row == len(self.rows):
             self.rows.append(event["kind"])
@@ -105,6 +105,12 @@ class Clock:
         return found
 
 
+def slot_of(room: str) -> str:
+    """Returns the slot that a room belongs to. Each process of a slot has a room with a new name: 0, 0.1, 0.2."""
+    folder, _, name = room.rpartition("/")
+    return f"{folder}/{name.partition('.')[0]}" if os.path.basename(folder) == ".worker_rooms" else room
+
+
 def longest_chain(listing: Listing, took: dict[str, float]) -> tuple[float, list[str]]:
     """Returns the chain of actions that took longest. Each action in it needs the one before it."""
     makers = listing.makers()
@@ -135,11 +141,11 @@ def waits(listing: Listing, clock: Clock) -> dict[str, float]:
     return found
 
 
-def table(head: list[str], rows: list[list[str]]) -> str:
-    """Returns a table in HTML."""
+def table(head: list[str], rows: list[list[str]], kind: str = "figures") -> str:
+    """Returns a table in HTML, of figures or of words."""
     lines = ["<tr>" + "".join(f"<th>{it}" for it in head)]
     lines += ["<tr>" + "".join(f"<td>{it}" for it in row) for row in rows]
-    return "<table>" + "\n".join(lines) + "</table>"
+    return f'<table class="{kind}">' + "\n".join(lines) + "</table>"
 
 
 def kinds_table(listing: Listing, clock: Clock, waiting: dict[str, float]) -> str:
@@ -198,7 +204,7 @@ def tables(listing: Listing, clock: Clock, took: dict[str, float], outcomes: dic
     if bad:
         rows = [[html.escape(it["n"]), html.escape(f"{it['outcome']} {it['detail']}"), f"<pre>{html.escape(it['text'][:300])}</pre>"]
                 for it in bad[:MOST_BAD]]
-        parts.append(f"<div><h3>Not made: {len(bad):,}{f', of which {MOST_BAD} are shown' if len(bad) > MOST_BAD else ''}</h3>{table(['action', 'outcome', 'text'], rows)}</div>")
+        parts.append(f"<div><h3>Not made: {len(bad):,}{f', of which {MOST_BAD} are shown' if len(bad) > MOST_BAD else ''}</h3>{table(['action', 'outcome', 'text'], rows, 'words')}</div>")
     slow = [[html.escape(name), f"{1000 * seconds:.0f}"] for name, seconds in sorted(took.items(), key=lambda it: -it[1])[:12]]
     steps = [[html.escape(name), f"{1000 * took[name]:.0f}", f"{1000 * waiting.get(name, 0):.0f}"] for name in chain[:40]]
     parts += [f"<div><h3>By mnemonic</h3>{kinds_table(listing, clock, waiting)}</div>",

@@ -198,9 +198,10 @@ def cut(actions: list[Action], levels: dict[str, int], most_keys: int, more_byte
 
     `more_bytes` is what a watcher adds to the text of an action.
     """
-    weights = {it.name: len(json.dumps(it.object)) + more_bytes for it in actions}
-    if len(actions) <= MOST_ACTIONS and sum(weights.values()) <= MOST_BYTES and len({it.key() for it in actions}) <= most_keys:
+    total = len(json.dumps([it.object for it in actions])) + len(actions) * more_bytes
+    if len(actions) <= MOST_ACTIONS and total <= MOST_BYTES and len({it.key() for it in actions}) <= most_keys:
         return [actions] if actions else []
+    weights = {it.name: len(json.dumps(it.object)) + more_bytes for it in actions}
     calls: list[list[Action]] = []
     now: list[Action] = []
     keys: set[str] = set()

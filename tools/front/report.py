@@ -46,4 +46,5 @@ def read_report(path: str, names: set[str]) -> tuple[dict[str, Reported], bool]:
             elif TOTAL.match(line):
                 is_whole = True
                 break
-    return {name: it._replace(text="\n".join(texts.get(name, ()))) for name, it in found.items()}, is_whole
+    found.update((name, found[name]._replace(text="\n".join(lines))) for name, lines in texts.items() if name in found)
+    return found, is_whole

@@ -5,8 +5,8 @@ import json
 import os
 import time
 
-from .digests import YOUNG, stamp_of, write_whole
-from .listing import Listing, state_folder
+from .digests import YOUNG, Files, stamp_of, write_whole
+from .listing import Action, Listing, state_folder
 from .options import Words
 
 DECIDING = ("--only", "--extra-flag")
@@ -40,16 +40,21 @@ def settled(path: str, words: Words) -> tuple[int, set[str]]:
         return 0, set()
 
 
-def settle(listing: Listing, words: Words, number: int) -> None:
-    """Notes the stamps of all files of a list that is up to date, unless one is so young that it may change unseen."""
-    more = listing.origin.extra_paths() if listing.origin is not None else []
-    paths = list(dict.fromkeys([listing.path, *more, *(path for it in listing.actions for path in (*it.reads(), *it.outputs))]))
-    stamps = [stamp_of(path) for path in paths]
-    limit = time.time_ns() - YOUNG
-    if listing.path == "-" or any(it is None or max(it[1], it[2]) > limit for it in stamps):
+def settle(listing: Listing, words: Words, actions: list[Action], files: Files, seconds: float) -> None:
+    """Notes the stamps that all files of these actions had when they were found to be up to date.
+
+    `seconds` is the time since this call began. If the list itself, or a file that it comes from, has changed since then, that change
+    may not have been seen, so nothing is noted.
+    """
+    begun = time.time_ns() - YOUNG - int(seconds * 1e9)
+    own = [listing.path, *(listing.origin.extra_paths() if listing.origin is not None else [])]
+    stamps = {path: stamp for path in own if (stamp := stamp_of(path)) is not None and max(stamp[1], stamp[2]) < begun}
+    paths = list(dict.fromkeys([*own, *(path for it in actions for path in (*it.reads(), *it.outputs))]))
+    found = [stamps.get(path) or files.sure_stamp(path) for path in paths]
+    if listing.path == "-" or not stamps.keys() >= set(own) or None in found:
         unsettle(listing.path)
         return
-    write_whole(place_of(listing.path), json.dumps([number, mark_of(words), sorted(listing.mnemonics()), paths, stamps]))
+    write_whole(place_of(listing.path), json.dumps([len(actions), mark_of(words), sorted(listing.mnemonics()), paths, found]))
 
 
 def unsettle(path: str) -> None:

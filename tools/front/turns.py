@@ -6,7 +6,6 @@ from __future__ import annotations
 
 import collections
 import os
-import secrets
 import selectors
 import socket
 
@@ -18,7 +17,7 @@ class Turns:
 
     def __init__(self, most: int) -> None:
         self.most = most
-        self.address = f"lenthuvi-{os.getpid()}-{secrets.token_hex(16)}"
+        self.address = f"lenthuvi-{os.getpid()}-{os.urandom(16).hex()}"
         self.server = socket.socket(socket.AF_UNIX, socket.SOCK_STREAM)
         self.server.bind("\0" + self.address)
         self.server.listen(64)

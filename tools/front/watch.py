@@ -6,10 +6,9 @@ The front writes a CONFIG for each worker key, and one for the executor.
 """
 from __future__ import annotations
 
-import json
+import marshal
 import os
 import select
-import signal
 import sys
 import time
 
@@ -17,13 +16,15 @@ from . import child as children
 from . import wire
 from .child import Child
 from .home import Home
-from .notes import Notes, Turns
+from .notes import Notes, Turns, spelt_value
 
 TYPE_CHECKING = False
 if TYPE_CHECKING:
+    import signal
     from hashlib import blake2b
     from typing import Any
 else:
+    import _signal as signal  # signal would load enum
     from _blake2 import blake2b  # hashlib would load OpenSSL, which takes longer than all the rest
 
 PIECE = 1 << 16
@@ -84,6 +85,7 @@ class Watcher:
         self.child: Child | None = None
         self.turns = Turns(config["turns"]) if config.get("turns") else None
         self.input_ended = self.has_told_text = self.is_over = False
+        self.is_full = False  # the worker's input takes no more
         self.deadline = self.last_answer = 0.0
         self.parent = os.getppid()
 
@@ -132,7 +134,7 @@ class Watcher:
         return self.home.path if self.home is not None else os.getcwd()
 
     def tools_are_as_before(self) -> bool:
-        """Returns True if no tool has changed since the front took the digests by which a kept worker is found."""
+        """Returns True if no tool has changed since the front looked at those by which a kept worker is found."""
         try:
             for path, *stamp in self.config["stamps"]:
                 held = os.stat(path)
@@ -249,7 +251,7 @@ class Watcher:
         """Answers a request instead of the worker: it has failed."""
         self.open.pop(it.number, None)
         self.stop_all()
-        self.notes.add_of("answer", it.name, it.number, f', "exit": 1, "text": {json.dumps(text)}')
+        self.notes.add_of("answer", it.name, it.number, f', "exit": 1, "text": {spelt_value(text)}')
         write_all(1, wire.telling(wire.Told(it.number, 1, text), self.form))
 
     def give_turns(self, number: int) -> None:
@@ -273,10 +275,13 @@ class Watcher:
                 del self.to_child[: os.write(self.child.feed, self.to_child[:PIECE])]
         except BlockingIOError:
             self.poll.register(self.child.feed, select.POLLOUT)
+            self.is_full = True
             return
         except BrokenPipeError:
             self.to_child.clear()
-        self.forget(self.child.feed)
+        if self.is_full:
+            self.forget(self.child.feed)
+            self.is_full = False
         if self.input_ended:
             self.end_input()
 
@@ -314,7 +319,7 @@ class Watcher:
                 self.tell_text(raw)
         if not self.open and not self.answered.held:
             self.tell_keeper(False)
-        if looks_wrong(self.answered, self.form):
+        if self.answered.held and looks_wrong(self.answered, self.form):
             self.tell_text(bytes(self.answered.held))
         write_all(1, piece)
         self.pump()
@@ -330,16 +335,15 @@ class Watcher:
         if self.home is not None and told.exit == 0 and not told.cancelled:
             self.take_back(done)
         self.suspects.discard(told.id)
-        self.give_turns(1)
-        bad = (told.exit != 0 or bool(told.refusal)) and not told.cancelled
-        more = {key: it for key, it in (("text", told.text[:MOST_TEXT] if bad else ""), ("refusal", told.refusal),
-                                        ("cancelled", told.cancelled)) if it}
         begun = max(done.since, self.last_answer) if self.config["in_turn"] else done.since
         self.last_answer = time.monotonic()
         if (told.refusal or told.exit == KILLED_BY_TIMER) and self.config["local"] and done.limit and time.monotonic() - begun >= done.limit:
             self.notes.add("limit", n=done.name, s=done.limit, held="''")
-        rest = "".join(f', "{key}": {json.dumps(it)}' for key, it in more.items())
+        bad = (told.exit != 0 or bool(told.refusal)) and not told.cancelled
+        more = {"text": told.text[:MOST_TEXT] if bad else "", "refusal": told.refusal, "cancelled": told.cancelled}
+        rest = "".join(f', "{key}": {spelt_value(it)}' for key, it in more.items() if it)
         self.notes.add_of("answer", done.name, told.id, f', "exit": {told.exit}{rest}')
+        self.give_turns(1)
         if bad:
             self.stop_all()
             self.keep_room(done)
@@ -414,13 +418,14 @@ class Watcher:
         """Returns the time at which a request began. An executor may do its jobs in turn, so there it is after the last answer."""
         return max(it.since, self.last_answer) if self.form == "job" else it.since
 
-    def wait_ms(self) -> float | None:
-        """Returns the number of milliseconds until something must be checked, or None for ever."""
+    def next_check(self) -> float:
+        """Returns the time at which something must be checked, or 0 for never."""
         ends = [self.deadline] if self.deadline else []
         for it in self.judged():
-            ends += [self.begun(it) + it.limit] if it.limit else []
-            ends += [] if it.was_told else [self.begun(it) + PATIENCE]
-        return max(0.0, (min(ends) - time.monotonic()) * 1000 + 1) if ends else None
+            begun = self.begun(it)
+            ends += [begun + it.limit] if it.limit else []
+            ends += [] if it.was_told else [begun + PATIENCE]
+        return min(ends, default=0.0)
 
     def guard(self) -> None:
         """Kills the worker if an answer is overdue, and reports an answer that is late."""
@@ -506,7 +511,7 @@ class Watcher:
         for fd in (child.tap, child.errors, child.watch, child.feed):
             self.forget(fd)
         child.close()
-        self.child, self.is_over = None, False
+        self.child, self.is_over, self.is_full = None, False, False
         self.to_child.clear()
 
     def read_rest(self, child: Child) -> None:
@@ -534,21 +539,23 @@ class Watcher:
         if self.turns is not None and self.turns.has_front:
             self.poll.register(self.turns.line, select.POLLIN)
         while True:
-            before, wait = time.monotonic(), self.wait_ms()
-            found = self.poll.poll(wait)
-            if wait is not None:
-                self.shift(time.monotonic() - before - wait / 1000)
+            end, before = self.next_check(), time.monotonic()
+            wait = max(0.0, end - before) if end else None
+            found = self.poll.poll(None if wait is None else 1000 * wait + 1)
+            now = time.monotonic()
+            if wait is not None and now - before - wait > JUMP:
+                self.shift(now - before - wait)
             for fd, _ in sorted(found, key=self.turn) if len(found) > 1 else found:
                 self.react(fd)
-            self.guard()
+            if end and now >= end:
+                self.guard()
 
     def shift(self, late: float) -> None:
         """Doesn't count the time for which this process and its worker were stopped, as by Ctrl-Z."""
-        if late > JUMP:
-            self.last_answer += late if self.last_answer else 0.0
-            self.deadline += late if self.deadline else 0.0
-            for it in self.open.values():
-                it.since += late
+        self.last_answer += late if self.last_answer else 0.0
+        self.deadline += late if self.deadline else 0.0
+        for it in self.open.values():
+            it.since += late
 
     def turn(self, ready: tuple[int, int]) -> int:
         """Returns which file comes first: a worker's standard error belongs to the request that it answers next, and its end is last."""
@@ -668,10 +675,10 @@ def main(words: list[str]) -> int:
         os.execve(command[0], command, own_environment())
     signal.signal(signal.SIGINT, signal.SIG_IGN)
     try:
-        with open(config, encoding="utf-8") as file:
-            held = json.load(file)
+        with open(config, "rb") as file:
+            held = marshal.loads(file.read())
         watcher = Watcher(held, command, own_environment())
-    except (OSError, ValueError) as error:
+    except (OSError, ValueError, EOFError, TypeError) as error:
         print(f"lenthuvi: a watcher can't begin: {error}", file=sys.stderr)
         return 1
     if not (held["stops"] and os.path.exists(held["stop"])):

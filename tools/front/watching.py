@@ -2,6 +2,7 @@
 from __future__ import annotations
 
 import json
+import marshal
 import os
 import shutil
 import sys
@@ -57,16 +58,12 @@ class Watching:
     def watched(self, actions: list[Action]) -> list[Json]:
         """Writes the settings of the worker keys. Returns the actions with watchers before their workers."""
         groups: dict[str, list[Action]] = {}
+        key_of = {it.name: it.key() for it in actions if self.is_watched(it)}
         for it in actions:
-            if self.is_watched(it):
-                groups.setdefault(it.key(), []).append(it)
-        configs = {key: self.write_key(sum_of([key]), found) for key, found in groups.items()}
-        out = []
-        for it in actions:
-            config = configs.get(it.key()) if self.is_watched(it) else None
-            argv = [*self.prefix, config, os.path.abspath(it.argv[0]), *it.argv[1:]] if config else it.argv
-            out.append({**it.object, "argv": argv})
-        return out
+            if it.name in key_of:
+                groups.setdefault(key_of[it.name], []).append(it)
+        fronts = {key: [*self.prefix, self.write_key(sum_of([key]), found), os.path.abspath(found[0].argv[0])] for key, found in groups.items()}
+        return [{**it.object, "argv": [*fronts[key_of[it.name]], *it.argv[1:]]} if it.name in key_of else it.object for it in actions]
 
     def write_key(self, mark: str, actions: list[Action]) -> str:
         """Writes the settings of a worker key. Returns the file's path."""
@@ -76,14 +73,14 @@ class Watching:
         keep = self.words.number("--keep", 0)
         config = {**self.common(), "form": first.form(), "kind": first.mnemonic, "names": self.names_of(actions), "in_turn": not several,
                   "tools": sum_of([f"{path}={self.tools.get(path)}" for path in reads]),
-                  "stamps": [[os.path.abspath(path), *(stamp_of(path) or ())] for path in reads],
+                  "stamps": [[os.path.abspath(path), *(stamp_of(path) or ())] for path in (*reads, *keeper.named_files(first.start_words()))],
                   "keep": keep, "kept": keeper.folder() if keep else "", "most_kept": self.most_kept}
         if self.sandbox:
             config["isolate"] = isolation.bound(self.sandbox, self.start, [os.path.abspath(it) for it in reads])
         config["alone"] = self.words.has("--alone") and several
         if config["alone"] or keep:
             config["outputs"] = {it.name: it.outputs for it in actions}
-        return self.write(f"keys/{mark}.json", config)
+        return self.write(f"keys/{mark}", config)
 
     def names_of(self, actions: list[Action]) -> Json:
         """Returns the names and limits of actions by their inputs. If several have equal inputs, adds their words."""
@@ -110,7 +107,7 @@ class Watching:
                 raise Unwanted(f"--isolate: jobs of {name} can't be isolated from here; only remote_exec and job_pool run them here")
             reads = [os.path.abspath(it.argv[0]) for it in actions if it.argv[0] not in it.inputs]
             config["isolate"] = isolation.bound(self.sandbox, self.start, reads)
-        path = self.write("keys/executor.json", config)
+        path = self.write("keys/executor", config)
         script = os.path.join(self.state, "executor")
         words = " ".join(quoted(it) for it in (*self.prefix, path, self.executor))
         write_whole(script, f'#!/bin/sh\nexec {words} "$@"\n')
@@ -118,9 +115,9 @@ class Watching:
         return executor_words(script, program)
 
     def write(self, name: str, config: Json) -> str:
-        """Writes settings, as a new file, since a watcher may read the old one."""
+        """Writes settings, as a new file, since a watcher may read the old one. The watcher is run by this very Python."""
         path = os.path.join(self.state, name)
-        write_whole(path, json.dumps(config))
+        write_whole(path, marshal.dumps(config))
         return path
 
 

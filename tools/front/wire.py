@@ -1,17 +1,17 @@
 """The messages between worker_tool and workers or executors, as far as a watcher must understand them.
 
-Each worker starts a watcher, so this loads nothing but `json`, and copies no contents. `../worker_wire.py` has the whole messages.
+Each worker starts a watcher, so this loads `json` only for workers that speak it, and copies no contents. `../worker_wire.py`
+has the whole messages.
 """
 from __future__ import annotations
 
-import json
-
 TYPE_CHECKING = False
 if TYPE_CHECKING:
-    from typing import Iterator
+    from typing import Any, Iterator
 
 MAX_NUMBER_BYTES = 10
 MAX_MESSAGE = 67_108_864
+PATH_TAG = 10  # field 1, as bytes
 
 
 class NoMessage(ValueError):
@@ -34,8 +34,10 @@ class Told:
         self.id, self.exit, self.text, self.refusal, self.cancelled = number, code, text, refusal, cancelled
 
 
-def number_at(data: bytes, at: int) -> tuple[int, int]:
+def number_at(data: bytes | bytearray, at: int) -> tuple[int, int]:
     """Returns the number that begins at a place, and the place of its end, or -1 as its end if it is cut off."""
+    if at < len(data) and data[at] < 0x80:
+        return data[at], at + 1  # Most numbers have one byte.
     number = shift = 0
     for place in range(at, min(at + MAX_NUMBER_BYTES, len(data))):
         byte = data[place]
@@ -91,7 +93,11 @@ def text_at(data: bytes, begin: int, end: int) -> str:
 
 
 def path_of(data: bytes, begin: int, end: int) -> str:
-    """Returns the path of an input, its first field."""
+    """Returns the path of an input, its first field. Most paths come first and are short, so they are found by two bytes."""
+    if end - begin > 1 and data[begin] == PATH_TAG and data[begin + 1] < 0x80:
+        last = begin + 2 + data[begin + 1]
+        if last <= end:
+            return text_at(data, begin + 2, last)
     for number, _, first, last in fields(data[begin:end]):
         if number == 1:
             return text_at(data, begin + first, begin + last)
@@ -119,9 +125,16 @@ def asked_of(message: bytes, form: str) -> Asked:
     return Asked(number, tuple(words), tuple(inputs), (), cancel, folder)
 
 
+def value_of(line: bytes) -> Any:
+    """Returns the value that a line in JSON spells."""
+    import json
+
+    return json.loads(line)
+
+
 def asked_in_json(line: bytes) -> Asked:
     """Reads a request in JSON."""
-    held = json.loads(line)
+    held = value_of(line)
     inputs = tuple(it.get("path", "") for it in held.get("inputs") or ())
     return Asked(int(held.get("requestId") or 0), tuple(held.get("arguments") or ()), inputs, (), bool(held.get("cancel")),
                  held.get("sandboxDir") or "")
@@ -143,7 +156,7 @@ def asked_of_job(message: bytes) -> Asked:
 def told_of(message: bytes, form: str) -> Told:
     """Reads a message from a worker or an executor."""
     if form == "json":
-        held = json.loads(message)
+        held = value_of(message)
         if not isinstance(held, dict):
             raise NoMessage("the line isn't an object")
         number = held.get("requestId", held.get("request_id")) or 0
@@ -181,6 +194,8 @@ def framed(message: bytes) -> bytes:
 def telling(told: Told, form: str) -> bytes:
     """Returns the frame of a response or a result."""
     if form == "json":
+        import json
+
         held = {"exitCode": told.exit, "output": told.text, "requestId": told.id, "wasCancelled": told.cancelled}
         return json.dumps({key: value for key, value in held.items() if value}).encode() + b"\n"
     text = told.text.encode()
@@ -232,7 +247,7 @@ class Cutter:
             end = self.held.find(b"\n", self.searched) + 1
             self.searched = len(self.held)
             return 0, end or -1
-        length, begin = number_at(bytes(self.held[:MAX_NUMBER_BYTES]), 0)
+        length, begin = number_at(self.held, 0)
         if begin < 0 or len(self.held) < begin + length:
             return 0, -1
         return begin, begin + length
