@@ -6,12 +6,11 @@ import fcntl
 import os
 import termios
 
+from .lean import signal
+
 TYPE_CHECKING = False
 if TYPE_CHECKING:
-    import signal
     import socket
-else:
-    import _signal as signal  # signal would load enum
 
 PR_SET_PDEATHSIG = 1
 CANT_START = 127

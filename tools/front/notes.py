@@ -7,13 +7,11 @@ from __future__ import annotations
 import os
 import time
 
+from .lean import spelt
+
 TYPE_CHECKING = False
 if TYPE_CHECKING:
     from typing import Any
-
-    def spelt(text: str) -> str: ...
-else:
-    from _json import encode_basestring_ascii as spelt  # json would load re
 
 
 def spelt_value(value: Any) -> str:

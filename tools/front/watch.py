@@ -16,16 +16,12 @@ from . import child as children
 from . import wire
 from .child import Child
 from .home import Home
+from .lean import blake2b, signal
 from .notes import Notes, Turns, spelt_value
 
 TYPE_CHECKING = False
 if TYPE_CHECKING:
-    import signal
-    from hashlib import blake2b
     from typing import Any
-else:
-    import _signal as signal  # signal would load enum
-    from _blake2 import blake2b  # hashlib would load OpenSSL, which takes longer than all the rest
 
 PIECE = 1 << 16
 PATIENCE = 10.0  # seconds after which a pending answer is reported as late
