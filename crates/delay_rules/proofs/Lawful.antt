@@ -22,7 +22,7 @@ use Rattle.journal_laws.proofs.Claims as c
 use Rattle.journal_laws.proofs.Ours as ours
 use Rattle.journal_laws.proofs.Berths as be
 use Rattle.core_contract.specs.Disciplines.{LegalBy, LegalEntryBy}
-use Rattle.history_laws.proofs.Fitting.{anywhere}
+use Rattle.discipline_laws.proofs.Fitting.{anywhere}
 use Rattle.delay_rules.specs.Delayed as de
 use Rattle.delay_rules.specs.Delayed.{delayed_discipline}
 use Rattle.delay_rules.proofs.Nexts.{nexts}

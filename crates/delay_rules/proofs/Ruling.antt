@@ -23,9 +23,9 @@ use Rattle.journal_laws.proofs.Berths as be
 use Rattle.journal_laws.proofs.Ours as ours
 use Rattle.core_contract.specs.Disciplines.{IsDiscipline, is_plain}
 use Rattle.core_contract.specs.Laws.{OrderFits, fits}
-use Rattle.history_laws.proofs.Fitting.{plain_fits}
-use Rattle.history_laws.proofs.OwnSeats.{runs_on}
-use Rattle.history_laws.proofs.Seating.{IsOnLine, order_fits}
+use Rattle.discipline_laws.proofs.Fitting.{plain_fits}
+use Rattle.discipline_laws.proofs.OwnSeats.{runs_on}
+use Rattle.discipline_laws.proofs.Seating.{IsOnLine, order_fits}
 use Rattle.delay_rules.specs.Delayed as de
 use Rattle.delay_rules.specs.Delayed.{delayed_discipline, delayed_rule}
 use Rattle.delay_rules.proofs.Lawful as lf

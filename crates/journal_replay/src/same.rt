@@ -22,7 +22,12 @@ pub(crate) fn is_told(reply: &Reply, told: &Reply) -> bool
             action,
             branch,
             attempt,
-        } => is_send(*line, *number, Attempt::of(*action, *branch, *attempt), told),
+        } => is_send(
+            *line,
+            *number,
+            Attempt::of(*action, *branch, *attempt),
+            told,
+        ),
         Reply::Cancel { line, number } => is_cancel(*line, *number, told),
         Reply::Gather {
             line,

@@ -6,7 +6,7 @@
 use outside_mem::MemFloor;
 use outside_real::{RealFloor, RealSink, open_standard};
 use recorded_runs::{run_recorded, run_told_recorded};
-use run_command::{
+use run_console::{
     Cause, OPTIONS, Outputs, Prints, Program, TOGETHER, end, end_unread, tell, tell_ended, words,
 };
 use std::alloc::Global;

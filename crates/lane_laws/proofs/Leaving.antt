@@ -29,10 +29,10 @@ use Rattle.tap_lane.specs.declared.ends.TapHalt.TheVariants as want
 use Rattle.tap_lane.specs.Heard.{AreAnswers}
 use Rattle.tap_lane.specs.Lane.{Whole, Runs, CutShort, RunsUntil, LaneEnds}
 use Rattle.run_values.specs.Settings.{Means}
-use Rattle.proxy_deeds.specs.declared.halt.ProxyHalt.{ProxyHalt}
-use Rattle.proxy_deeds.specs.declared.halt.ProxyHalt.TheVariants as cause
-use Rattle.proxy_deeds.specs.Deeds.{Deed, DeedOf, Acts}
-use Rattle.proxy_deeds.specs.Ends.{HaltsBy, Halts, Stops, Ends}
+use Rattle.proxy_words.specs.declared.halt.ProxyHalt.{ProxyHalt}
+use Rattle.proxy_words.specs.declared.halt.ProxyHalt.TheVariants as cause
+use Rattle.proxy_words.specs.Deeds.{Deed, DeedOf, Acts}
+use Rattle.proxy_words.specs.Ends.{HaltsBy, Halts, Stops, Ends}
 use Rattle.lane_laws.specs.Places.{owes_commit, halts_owing_from, halts_owing, HasLeft}
 use Rattle.lane_laws.specs.Taps.{taken_by, taken_in}
 use Rattle.lane_laws.specs.Lanes.{WasStopped}

@@ -20,8 +20,8 @@ use Rattle.core_contract.specs.Moves.{Past, History}
 use Rattle.core_contract.specs.Laws.{fits, Fits, InScript, OrderHolds, lines_in}
 use Rattle.core_contract.specs.Duties.{Duty, Asks, Launches, Sends, Cancels, Gathers, Commits, Kills, Left, duty_from, duty_by, duty_of, proxy_lane, may_make}
 use Rattle.core_contract.specs.Shelf.{child_at}
-use Rattle.proxy_deeds.specs.Lines.{started_by, started_in}
-use Rattle.proxy_deeds.proofs.Growing.{started_more}
+use Rattle.proxy_words.specs.Lines.{started_by, started_in}
+use Rattle.proxy_words.proofs.Growing.{started_more}
 use Rattle.lane_laws.specs.Numbers.{In, Distinct}
 use Rattle.lane_laws.specs.Numbers.{concat}
 use Rattle.lane_laws.proofs.Ins.{in_front, in_either}

@@ -17,8 +17,8 @@ use Rattle.core_contract.specs.Moves.{Past, History, proxy_move, tap_move, move_
 use Rattle.core_contract.specs.Laws.{fits, Fits, InScript, tap_lane}
 use Rattle.core_contract.specs.Duties.{proxy_lane}
 use Rattle.core_contract.specs.Shelf.{child_at, tap_by, tap_at}
-use Rattle.proxy_deeds.specs.Lines.{started_by, started_in, listed}
-use Rattle.proxy_deeds.proofs.Growing.{started_more}
+use Rattle.proxy_words.specs.Lines.{started_by, started_in, listed}
+use Rattle.proxy_words.proofs.Growing.{started_more}
 use Rattle.lane_laws.specs.Taps.{taken_by, taken_in, started_at}
 use Rattle.lane_laws.proofs.Steps as steps
 use Rattle.lane_laws.proofs.Steps.{own_call, other_call, tap_more, proxy_even}

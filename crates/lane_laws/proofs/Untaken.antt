@@ -17,7 +17,7 @@ use Rattle.core_contract.specs.Moves.{Past, History}
 use Rattle.core_contract.specs.Laws.{fits, Fits, InScript, tap_lane, is_taken}
 use Rattle.core_contract.specs.Duties.{Duty, Commits, Asks, Left, duty_of, proxy_lane, may_make}
 use Rattle.core_contract.specs.Shelf.{tap_at}
-use Rattle.proxy_deeds.specs.Lines.{listed}
+use Rattle.proxy_words.specs.Lines.{listed}
 use Rattle.lane_laws.specs.Numbers.{In, Distinct}
 use Rattle.lane_laws.proofs.Ins.{in_front, in_back}
 use Rattle.lane_laws.specs.Taps.{taken_by, taken_in, started_at}

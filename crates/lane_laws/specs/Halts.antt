@@ -9,9 +9,9 @@ use Rattle.core_contract.specs.Moves.{History}
 use Rattle.tap_lane.specs.declared.ends.TapHalt.{TapHalt}
 use Rattle.tap_lane.specs.Lane.{LaneEnds}
 use Rattle.run_values.specs.Settings.{Means}
-use Rattle.proxy_deeds.specs.declared.halt.ProxyHalt.{ProxyHalt}
-use Rattle.proxy_deeds.specs.Deeds.{Deed}
-use Rattle.proxy_deeds.specs.Ends.{Ends}
+use Rattle.proxy_words.specs.declared.halt.ProxyHalt.{ProxyHalt}
+use Rattle.proxy_words.specs.Deeds.{Deed}
+use Rattle.proxy_words.specs.Ends.{Ends}
 use Rattle.lane_laws.specs.Lanes.{WasStopped}
 
 -- one of the entries is a Halt

@@ -11,9 +11,9 @@ use Rattle.core_contract.specs.Moves.{Past, History}
 use Rattle.tap_lane.specs.declared.ends.TapHalt.{TapHalt}
 use Rattle.tap_lane.specs.Lane.{LaneEnds}
 use Rattle.run_values.specs.Settings.{Means}
-use Rattle.proxy_deeds.specs.declared.halt.ProxyHalt.{ProxyHalt}
-use Rattle.proxy_deeds.specs.Deeds.{Deed}
-use Rattle.proxy_deeds.specs.Ends.{Ends}
+use Rattle.proxy_words.specs.declared.halt.ProxyHalt.{ProxyHalt}
+use Rattle.proxy_words.specs.Deeds.{Deed}
+use Rattle.proxy_words.specs.Ends.{Ends}
 use Rattle.lane_laws.specs.Taps.{taken_in}
 use Rattle.lane_laws.specs.Places.{HasLeft}
 

@@ -11,7 +11,7 @@ use Rattle.core_contract.specs.Moves.{History}
 use Rattle.core_contract.specs.Laws.{tap_lane, is_taken}
 use Rattle.core_contract.specs.Duties.{proxy_lane}
 use Rattle.core_contract.specs.Shelf.{tap_at}
-use Rattle.proxy_deeds.specs.Lines.{started_in, listed}
+use Rattle.proxy_words.specs.Lines.{started_in, listed}
 
 -- the line that a Take was answered with
 abbrev pub taken_by : Call → Reply → List ℕ

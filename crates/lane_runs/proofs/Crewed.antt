@@ -3,17 +3,17 @@ use Rattle.std.specs.Global.{Vec}
 use Rattle.lane_runs.specs.declared.blank.Blank.{Blank}
 use Rattle.lane_runs.specs.Blanks.{HasRoom, IsBlankFor}
 use Rattle.std.proofs.Common.{◌≡◌, ℕ, ◌+◌, ◌*◌, ◌≤◌, List, [], ◌∷◌, length, ap, arith}
-use Rattle.lane_crew.specs.declared.pair.Either.{Either}
-use Rattle.lane_crew.specs.declared.pair.Either.TheVariants.{First, Second}
+use Rattle.lane_threads.specs.declared.pair.Either.{Either}
+use Rattle.lane_threads.specs.declared.pair.Either.TheVariants.{First, Second}
 use Rattle.remote_messages.specs.declared.work.WorkAction.{WorkAction}
 use Rattle.run_plan.specs.declared.plan.Speech.{Speech}
 use Rattle.run_values.specs.declared.settings.Settings.{Settings}
-use Rattle.lane_runs.specs.declared.proxies.ProxySeat.{ProxySeat}
-use Rattle.tap_lane.specs.declared.seat.TapSeat.{TapSeat}
+use Rattle.lane_runs.specs.declared.proxies.ProxyStart.{ProxyStart}
+use Rattle.tap_lane.specs.declared.seat.TapStart.{TapStart}
 use Rattle.lane_runs.specs.Seats.{AreSeats}
 
 pub two_each : {B : Type 0} (settings : Settings) (actions : List WorkAction) (w : ℕ) (bs : List B) (ss : List Speech)
-    (lanes : List (Either (ProxySeat B) TapSeat)) → AreSeats settings actions w bs ss lanes
+    (lanes : List (Either (ProxyStart B) TapStart)) → AreSeats settings actions w bs ss lanes
     → length lanes ≡ 2 * length ss
 two_each settings actions w [] [] lanes are = ap length are
 two_each settings actions w (b ∷ bs) (s ∷ ss) (First x ∷ Second y ∷ lanes) are =

@@ -5,8 +5,8 @@ use Rattle.std.proofs.lemmas.List.Elements.{All-nil, All-cons}
 use Rattle.seat_desk.specs.History.{calls_by}
 use Rattle.exec_journal.specs.declared.call.Call.{Call}
 use Rattle.exec_journal.specs.declared.reply.Reply.{Reply}
-use Rattle.lane_crew.specs.declared.pair.Either.{Either}
-use Rattle.lane_crew.specs.declared.pair.Either.TheVariants.{First, Second}
+use Rattle.lane_threads.specs.declared.pair.Either.{Either}
+use Rattle.lane_threads.specs.declared.pair.Either.TheVariants.{First, Second}
 use Rattle.outside.specs.Told.{BerthTold, FeedTold, TapTold, ChildTold}
 use Rattle.remote_messages.specs.declared.work.WorkAction.{WorkAction}
 use Rattle.lane_laws.specs.Numbers.{concat}
@@ -14,14 +14,14 @@ use Rattle.core_contract.specs.Moves.{History}
 use Rattle.core_contract.specs.Duties.{proxy_lane}
 use Rattle.core_contract.specs.Laws.{tap_lane}
 use Rattle.core_contract.specs.Shelf.{tap_at}
-use Rattle.core_bench.specs.Bench.{IsOf, IsTapOf}
+use Rattle.core_machine.specs.Bench.{IsOf, IsTapOf}
 use Rattle.run_plan.specs.declared.plan.Speech.{Speech}
 use Rattle.run_values.specs.declared.settings.Settings.{Settings}
-use Rattle.proxy_deeds.specs.declared.halt.ProxyHalt.{ProxyHalt}
-use Rattle.proxy_deeds.specs.Lines.{lines_of, listed}
-use Rattle.proxy_steps.specs.declared.hands.EndedFeed.{EndedFeed}
-use Rattle.proxy_steps.specs.Lanes.{back_of}
-use Rattle.proxy_steps.specs.Steps.{Ended}
+use Rattle.proxy_words.specs.declared.halt.ProxyHalt.{ProxyHalt}
+use Rattle.proxy_words.specs.Lines.{lines_of, listed}
+use Rattle.proxy_laws.specs.declared.hands.EndedFeed.{EndedFeed}
+use Rattle.proxy_laws.specs.Lanes.{back_of}
+use Rattle.proxy_laws.specs.Steps.{Ended}
 use Rattle.tap_lane.specs.declared.ends.EndedTap.{EndedTap}
 use Rattle.tap_lane.specs.declared.ends.TapHalt.{TapHalt}
 use Rattle.tap_lane.specs.Heard.{back_by}

@@ -6,7 +6,7 @@ use Rattle.std.proofs.Math.Seq.{map-set_same}
 use Rattle.std.proofs.lemmas.List.{length-map, map_push, map-append, map-set, replicate_more}
 use Rattle.std.proofs.lemmas.List.Elements.{All-nil, All-cons, All-head, All-tail}
 use Rattle.std.proofs.lemmas.List.FromFn.{length-range_with_len}
-use Rattle.proxy_steps.specs.declared.hands.EndedFeed.{EndedFeed}
+use Rattle.proxy_laws.specs.declared.hands.EndedFeed.{EndedFeed}
 use Rattle.tap_lane.specs.declared.ends.EndedTap.{EndedTap}
 use Rattle.lane_runs.specs.Placed.{Numbered, placed_all}
 use Rattle.lane_runs.specs.BerthHalves.{BerthLines, IsMatched, all_feed_lines, all_halves, feed_lines, halves_of, halves_with, tap_lines, taps_left}

@@ -1,9 +1,9 @@
 -- The ends of one berth more.
 use Rattle.std.proofs.Common.{◌≡◌, ℕ, ◌<◌, length, drop, arith, List, [], ◌∷◌, ◌++◌, Option, refl, sym, ap, subst, ◌∙◌, append_assoc, append-nil, All}
 use Rattle.std.proofs.lemmas.List.Elements.{All-nil, All-cons, All-head, All-tail}
-use Rattle.lane_crew.specs.declared.pair.Either.{Either}
-use Rattle.lane_crew.specs.declared.pair.Either.TheVariants.{First, Second}
-use Rattle.proxy_steps.specs.declared.hands.EndedFeed.{EndedFeed}
+use Rattle.lane_threads.specs.declared.pair.Either.{Either}
+use Rattle.lane_threads.specs.declared.pair.Either.TheVariants.{First, Second}
+use Rattle.proxy_laws.specs.declared.hands.EndedFeed.{EndedFeed}
 use Rattle.proxy_lane.specs.declared.lane.ProxyLeft.{ProxyLeft}
 use Rattle.tap_lane.specs.declared.ends.TapLeft.{TapLeft}
 use Rattle.lane_runs.specs.declared.halves.EndedLine.{EndedLine}

@@ -10,11 +10,11 @@ use Rattle.seat_desk.specs.History.{calls_by}
 use Rattle.seat_desk.specs.Passes.{IsPassOf, IsSamePass, mine, basis, seen}
 use Rattle.exec_journal.specs.declared.call.Call.{Call}
 use Rattle.exec_journal.specs.declared.reply.Reply.{Reply}
-use Rattle.lane_crew.specs.declared.pair.Either.{Either}
-use Rattle.lane_crew.specs.declared.pair.Either.TheVariants.{First, Second}
-use Rattle.lane_crew.specs.Lanes.{IsFresh}
-use Rattle.lane_crew.specs.Pairs.{MayRunOfKind, HasRunOfKind}
-use Rattle.lane_crew.specs.LaneJobs.{MayRun, MayRunInOrder, KeepsPasses, LaneEnds, EachLane}
+use Rattle.lane_threads.specs.declared.pair.Either.{Either}
+use Rattle.lane_threads.specs.declared.pair.Either.TheVariants.{First, Second}
+use Rattle.lane_threads.specs.Lanes.{IsFresh}
+use Rattle.lane_threads.specs.Pairs.{MayRunOfKind, HasRunOfKind}
+use Rattle.lane_threads.specs.LaneJobs.{MayRun, MayRunInOrder, KeepsPasses, LaneEnds, EachLane}
 use Rattle.outside.specs.Told.{BerthTold, FeedTold, TapTold, ChildTold}
 use Rattle.run_plan.specs.declared.plan.Speech.{Speech}
 use Rattle.remote_messages.specs.declared.work.WorkAction.{WorkAction}
@@ -25,17 +25,17 @@ use Rattle.core_contract.specs.Duties.{proxy_lane}
 use Rattle.core_contract.specs.Laws.{tap_lane}
 use Rattle.proxy_calls.specs.Calls.{IsProxyOf}
 use Rattle.run_values.specs.declared.settings.Settings.{Settings}
-use Rattle.proxy_deeds.specs.Settings.{FitsSettings}
+use Rattle.proxy_words.specs.Settings.{FitsSettings}
 use Rattle.run_values.specs.Settings.{AreOfPlan, Means, speaks_remote}
-use Rattle.proxy_deeds.proofs.Growing.{all_told_later}
-use Rattle.proxy_steps.specs.Lanes.{back_of}
-use Rattle.proxy_steps.specs.Steps.{Ended, IsServedBy}
+use Rattle.proxy_words.proofs.Growing.{all_told_later}
+use Rattle.proxy_laws.specs.Lanes.{back_of}
+use Rattle.proxy_laws.specs.Steps.{Ended, IsServedBy}
 use Rattle.run_values.specs.Work.{IsWorkOf}
 use Rattle.tap_lane.specs.Heard.{back_by}
 use Rattle.tap_lane.specs.Lane as tap
-use Rattle.lane_runs.specs.declared.proxies.ProxySeat.{ProxySeat}
+use Rattle.lane_runs.specs.declared.proxies.ProxyStart.{ProxyStart}
 use Rattle.proxy_lane.specs.declared.lane.ProxyLeft.{ProxyLeft}
-use Rattle.tap_lane.specs.declared.seat.TapSeat.{TapSeat}
+use Rattle.tap_lane.specs.declared.seat.TapStart.{TapStart}
 use Rattle.tap_lane.specs.declared.ends.TapLeft.{TapLeft}
 use Rattle.lane_runs.specs.Seats.{IsProxySeat, IsTapSeat, AreSeats, SpeechesFit, means_for, means_of}
 use Rattle.lane_runs.specs.Ran.{EachBerthRan}
@@ -68,34 +68,34 @@ module _ {M G Q : Type 0} (g : Ghosts M Call Reply G Q) {B D T K : Type 0}
 
   -- ---- what the lanes ask and leave
 
-  abbrev pub MayProxy : ProxySeat B → Desk M Call Reply G Q → ℕ → Pass M Call Reply G Q g → Type 0
+  abbrev pub MayProxy : ProxyStart B → Desk M Call Reply G Q → ℕ → Pass M Call Reply G Q g → Type 0
   MayProxy seat desk bells pass = IsPassOf desk pass × IsFresh pass
       × IsProxyOf rules seat.number pass × (pass.lane < bells)
       × FitsSettings (rules (basis pass)) seat.number seat.speech seat.settings.now
       × IsWorkOf (rules (basis pass)).plan seat.actions.now
 
-  abbrev pub MayTap : TapSeat → Desk M Call Reply G Q → ℕ → Pass M Call Reply G Q g → Type 0
+  abbrev pub MayTap : TapStart → Desk M Call Reply G Q → ℕ → Pass M Call Reply G Q g → Type 0
   MayTap seat desk bells pass = IsPassOf desk pass × IsFresh pass
       × (pass.lane ≡ tap_lane seat.berth) × (seat.berth < (rules (basis pass)).seats) × (pass.lane < bells)
 
-  abbrev pub ProxyRan : ProxySeat B → Pass M Call Reply G Q g → ProxyLeft B D K
+  abbrev pub ProxyRan : ProxyStart B → Pass M Call Reply G Q g → ProxyLeft B D K
       → Pass M Call Reply G Q g → Type 0
   ProxyRan seat pass left after = IsSamePass pass after
       × IsServedBy (means_of seat) rules (berth seat.berth) (berth left.berth)
       (map (back_of feed child) left.feeds.items) (option_map (back_of feed child) left.unsaid)
       left.halted after
 
-  abbrev pub TapRan : TapSeat → Pass M Call Reply G Q g → TapLeft T → Pass M Call Reply G Q g
+  abbrev pub TapRan : TapStart → Pass M Call Reply G Q g → TapLeft T → Pass M Call Reply G Q g
       → Type 0
   TapRan seat pass left after = IsSamePass pass after
       × tap.LaneEnds seat.speech pass.lane left.halted (map (back_by heard) left.taps.items)
       (mine after)
 
-  abbrev pub May : Either (ProxySeat B) TapSeat → Desk M Call Reply G Q → ℕ
+  abbrev pub May : Either (ProxyStart B) TapStart → Desk M Call Reply G Q → ℕ
       → Pass M Call Reply G Q g → Type 0
   May = MayRunOfKind MayProxy MayTap
 
-  abbrev pub HasRan : Either (ProxySeat B) TapSeat → Pass M Call Reply G Q g
+  abbrev pub HasRan : Either (ProxyStart B) TapStart → Pass M Call Reply G Q g
       → Either (ProxyLeft B D K) (TapLeft T) → Pass M Call Reply G Q g → Type 0
   HasRan = HasRunOfKind ProxyRan TapRan
 
@@ -109,7 +109,7 @@ module _ {M G Q : Type 0} (g : Ghosts M Call Reply G Q) {B D T K : Type 0}
   -- ---- before they run
 
   module _ (q : Q) (settings : Settings) (actions : List WorkAction) where
-    may_proxy : (w : ℕ) (b : B) (s : Speech) (x : ProxySeat B)
+    may_proxy : (w : ℕ) (b : B) (s : Speech) (x : ProxyStart B)
         → IsProxySeat settings actions w b s x → w < (rules q).seats
         → FitsSettings (rules q) w s settings → IsWorkOf (rules q).plan actions
         → MayRun May q (2 * w) (First x)
@@ -131,7 +131,7 @@ module _ {M G Q : Type 0} (g : Ghosts M Call Reply G Q) {B D T K : Type 0}
               (subst (λ (m : Means). IsWorkOf (rules q).plan m.actions) (sym is.2) work),
         )
 
-    may_tap : (w : ℕ) (s : Speech) (y : TapSeat) → IsTapSeat w s y → w < (rules q).seats
+    may_tap : (w : ℕ) (s : Speech) (y : TapStart) → IsTapSeat w s y → w < (rules q).seats
         → MayRun May q (2 * w + 1) (Second y)
     may_tap w s y is below desk bells pass of fresh number bell by = (
       of,
@@ -143,7 +143,7 @@ module _ {M G Q : Type 0} (g : Ghosts M Call Reply G Q) {B D T K : Type 0}
     )
 
     pub all_may : (w : ℕ) (bs : List B) (ss : List Speech)
-        (lanes : List (Either (ProxySeat B) TapSeat)) → AreSeats settings actions w bs ss lanes
+        (lanes : List (Either (ProxyStart B) TapStart)) → AreSeats settings actions w bs ss lanes
         → w + length ss ≤ (rules q).seats → AreOfPlan (rules q).plan settings
         → FitFrom (rules q) w ss → IsWorkOf (rules q).plan actions
         → MayRunInOrder May q (2 * w) lanes
@@ -168,7 +168,7 @@ module _ {M G Q : Type 0} (g : Ghosts M Call Reply G Q) {B D T K : Type 0}
   -- ---- after they ran
 
   served : (q : Q) (h : History) (settings : Settings) (actions : List WorkAction) (w : ℕ) (b : B)
-      (s : Speech) (x : ProxySeat B) (u : ProxyLeft B D K) → IsProxySeat settings actions w b s x
+      (s : Speech) (x : ProxyStart B) (u : ProxyLeft B D K) → IsProxySeat settings actions w b s x
       → LaneEnds HasRan q h (2 * w) (First x) (First u)
       → Ended (means_for settings actions s) (rule q) (proxy_lane w) (calls_by (proxy_lane w) h) h
       (berth b) (berth u.berth) (map (back_of feed child) u.feeds.items)
@@ -196,7 +196,7 @@ module _ {M G Q : Type 0} (g : Ghosts M Call Reply G Q) {B D T K : Type 0}
       (subst (λ (o : Q). Of means o r.after.lane (mine r.after) x.berth) by
       (subst (λ (o : Means). Of o (basis r.after) r.after.lane (mine r.after) x.berth) is.2 late))))
 
-  told : (q : Q) (h : History) (w : ℕ) (s : Speech) (y : TapSeat) (v : TapLeft T)
+  told : (q : Q) (h : History) (w : ℕ) (s : Speech) (y : TapStart) (v : TapLeft T)
       → IsTapSeat w s y → LaneEnds HasRan q h (2 * w + 1) (Second y) (Second v)
       → tap.LaneEnds s (tap_lane w) v.halted (map (back_by heard) v.taps.items)
       (calls_by (tap_lane w) h)
@@ -209,7 +209,7 @@ module _ {M G Q : Type 0} (g : Ghosts M Call Reply G Q) {B D T K : Type 0}
       is.1 r.ran.1))
 
   pub each_berth : (q : Q) (h : History) (settings : Settings) (actions : List WorkAction) (w : ℕ)
-      (bs : List B) (ss : List Speech) (lanes : List (Either (ProxySeat B) TapSeat))
+      (bs : List B) (ss : List Speech) (lanes : List (Either (ProxyStart B) TapStart))
       (ends : List (Either (ProxyLeft B D K) (TapLeft T))) → AreSeats settings actions w bs ss lanes
       → EachLane HasRan q h (2 * w) lanes ends
       → EachBerthRan berth feed heard child (rule q) settings actions h w bs ss ends

@@ -21,21 +21,21 @@ use Rattle.core_contract.specs.Moves.{History}
 use Rattle.core_contract.specs.Shelf.{tap_at}
 use Rattle.core_contract.specs.Duties.{proxy_lane}
 use Rattle.core_contract.specs.Laws.{tap_lane}
-use Rattle.core_bench.specs.Bench.{IsOf, IsTapOf}
+use Rattle.core_machine.specs.Bench.{IsOf, IsTapOf}
 use Rattle.lane_laws.specs.Pipes.{PipeOf, Each, said_on, end_on}
 use Rattle.tap_lane.specs.declared.ends.EndedTap.{EndedTap}
 use Rattle.tap_lane.specs.declared.ends.TapHalt.{TapHalt}
 use Rattle.tap_lane.specs.Heard.{back_by, SaysTo, EndedBy}
 use Rattle.tap_lane.specs.Lane.{LaneEnds}
 use Rattle.run_values.specs.declared.settings.Settings.{Settings}
-use Rattle.proxy_deeds.specs.declared.halt.ProxyHalt.{ProxyHalt}
-use Rattle.proxy_deeds.specs.Deeds.{Deed}
-use Rattle.proxy_deeds.specs.Ends.{Ends}
-use Rattle.proxy_deeds.specs.Lines as deeds
-use Rattle.proxy_deeds.specs.Lines.{listed}
-use Rattle.proxy_steps.specs.declared.hands.EndedFeed.{EndedFeed}
-use Rattle.proxy_steps.specs.Lanes.{back_of}
-use Rattle.proxy_steps.specs.Steps.{Ended}
+use Rattle.proxy_words.specs.declared.halt.ProxyHalt.{ProxyHalt}
+use Rattle.proxy_words.specs.Deeds.{Deed}
+use Rattle.proxy_words.specs.Ends.{Ends}
+use Rattle.proxy_words.specs.Lines as deeds
+use Rattle.proxy_words.specs.Lines.{listed}
+use Rattle.proxy_laws.specs.declared.hands.EndedFeed.{EndedFeed}
+use Rattle.proxy_laws.specs.Lanes.{back_of}
+use Rattle.proxy_laws.specs.Steps.{Ended}
 use Rattle.lane_runs.specs.declared.halves.EndedLine.{EndedLine}
 use Rattle.lane_runs.specs.declared.halves.Halves.{Halves}
 use Rattle.lane_runs.specs.BerthHalves.{IsMatched, taps_left, halves_with, halves_of, all_halves}

@@ -12,17 +12,17 @@ use Rattle.exec_journal.specs.declared.call.Call.TheVariants as call
 use Rattle.exec_journal.specs.declared.reply.Reply.{Reply}
 use Rattle.exec_journal.specs.declared.reply.Reply.TheVariants as reply
 use Rattle.exec_journal.proofs.Ruled.{by_bool}
-use Rattle.lane_crew.specs.Lanes.{IsFresh}
-use Rattle.lane_crew.specs.LaneJobs.{KeepsPasses}
+use Rattle.lane_threads.specs.Lanes.{IsFresh}
+use Rattle.lane_threads.specs.LaneJobs.{KeepsPasses}
 use Rattle.core_contract.specs.Discipline.{Discipline}
 use Rattle.core_contract.specs.Moves.{Past, History}
 use Rattle.core_contract.specs.Duties.{Left, duty_of, proxy_lane}
-use Rattle.lane_crew.specs.Beside.{EndsBeside, MayRunBeside, count_of}
+use Rattle.lane_threads.specs.Beside.{EndsBeside, MayRunBeside, count_of}
 use Rattle.lane_laws.specs.Places.{HasLeft, IsGone, halts_owing}
 use Rattle.tick_lane.specs.declared.seat.TickEnd.{TickEnd}
 use Rattle.tick_lane.specs.declared.seat.TickEnd.TheVariants as end
 use Rattle.tick_lane.specs.declared.seat.TickLeft.{TickLeft}
-use Rattle.tick_lane.specs.declared.seat.TickSeat.{TickSeat}
+use Rattle.tick_lane.specs.declared.seat.TickStart.{TickStart}
 use Rattle.tick_lane.specs.Ticks.{IsTicker, LaneTicks, last_entry}
 use Rattle.lane_runs.specs.Paced.{HasPaced, MayPace, pacer_back, pacer_left, seat_for}
 
@@ -30,11 +30,11 @@ use Rattle.lane_runs.specs.Paced.{HasPaced, MayPace, pacer_back, pacer_left, sea
 
 module _ {M G Q W : Type 0} (g : Ghosts M Call Reply G Q) (rules : Q → Discipline)
     (told : W → ℕ) where
-  abbrev pub MayTick : TickSeat W → Desk M Call Reply G Q → ℕ → Pass M Call Reply G Q g → Type 0
+  abbrev pub MayTick : TickStart W → Desk M Call Reply G Q → ℕ → Pass M Call Reply G Q g → Type 0
   MayTick seat desk bells pass = IsPassOf desk pass × IsFresh pass
       × IsTicker rules seat.berth pass × (pass.lane < bells)
 
-  abbrev pub TicksRan : TickSeat W → Pass M Call Reply G Q g → TickLeft W
+  abbrev pub TicksRan : TickStart W → Pass M Call Reply G Q g → TickLeft W
       → Pass M Call Reply G Q g → Type 0
   TicksRan seat pass left after = IsSamePass pass after
       × LaneTicks pass.lane (told seat.pacer) (told left.pacer) left.end (mine after)
@@ -130,7 +130,7 @@ as_many_beside w (Some pacer) = refl
 
 -- ---- of the seat that was made for it
 
-pub seat_others : {W : Type 0} (w k : ℕ) (pacer : Option W) (seat : Option (TickSeat W))
+pub seat_others : {W : Type 0} (w k : ℕ) (pacer : Option W) (seat : Option (TickStart W))
     → seat ≡ seat_for w pacer → (h : History) → NoneFrom (k + count_of seat) h
     → NoneFrom (k + count_of pacer) h
 seat_others w k pacer seat is h none = subst (λ (n : ℕ). NoneFrom (k + n) h)
@@ -138,17 +138,17 @@ seat_others w k pacer seat is h none = subst (λ (n : ℕ). NoneFrom (k + n) h)
 
 module _ {M G Q W : Type 0} (g : Ghosts M Call Reply G Q) (rules : Q → Discipline)
     (told : W → ℕ) (w k : ℕ) (pacer : Option W)
-    (seat : Option (TickSeat W)) (is : seat ≡ seat_for w pacer) (at : k ≡ proxy_lane w) where
+    (seat : Option (TickStart W)) (is : seat ≡ seat_for w pacer) (at : k ≡ proxy_lane w) where
   pub seat_may : (q : Q) → MayPace (rules q) w pacer
       → MayRunBeside (MayTick g rules told) q k seat
-  seat_may q may = subst (λ (o : Option (TickSeat W)). MayRunBeside (MayTick g rules told) q k o)
+  seat_may q may = subst (λ (o : Option (TickStart W)). MayRunBeside (MayTick g rules told) q k o)
       (sym is) (may_tick g rules told q w k pacer at may)
 
   pub seat_paced : (q : Q) (h : History) (left : Option (TickLeft W))
       → EndsBeside (TicksRan g rules told) q h k seat left
       → HasPaced told (proxy_lane w) pacer (pacer_left left) h
   seat_paced q h left ends = has_paced g rules told q h w k pacer left at
-      (subst (λ (o : Option (TickSeat W)). EndsBeside (TicksRan g rules told) q h k o left)
+      (subst (λ (o : Option (TickStart W)). EndsBeside (TicksRan g rules told) q h k o left)
       is ends)
 
   -- each proxy lane behind those of the first w berths is gone

@@ -10,8 +10,8 @@ use Rattle.exec_journal.specs.declared.call.Call.{Call}
 use Rattle.exec_journal.specs.declared.reply.Reply.{Reply}
 use Rattle.outside.specs.Told.{BerthTold, FeedTold, TapTold, ChildTold, PlaceTold, LineTold}
 use Rattle.remote_messages.specs.declared.work.WorkAction.{WorkAction}
-use Rattle.lane_crew.specs.declared.pair.Either.{Either}
-use Rattle.lane_crew.specs.declared.pair.Either.TheVariants.{First, Second}
+use Rattle.lane_threads.specs.declared.pair.Either.{Either}
+use Rattle.lane_threads.specs.declared.pair.Either.TheVariants.{First, Second}
 use Rattle.lane_laws.specs.Lanes.{EndedHaveLeft}
 use Rattle.lane_runs.specs.Placed.{Numbered}
 use Rattle.lane_laws.specs.Numbers.{In, Distinct}
@@ -22,11 +22,11 @@ use Rattle.core_contract.specs.Moves.{History}
 use Rattle.core_contract.specs.Shelf.{Spot, Fresh, Away, Back, tap_at, place_at}
 use Rattle.core_contract.specs.Duties.{proxy_lane}
 use Rattle.core_contract.specs.Laws.{tap_lane, lines_in}
-use Rattle.core_bench.specs.Bench.{IsOf, IsTapOf, IsInSpot, IsPlaceOf, TapsLie, PlacesLie}
-use Rattle.core_bench.specs.Objects.{AreFresh, IsPlaceAt}
+use Rattle.core_machine.specs.Bench.{IsOf, IsTapOf, IsInSpot, IsPlaceOf, TapsLie, PlacesLie}
+use Rattle.core_machine.specs.Objects.{AreFresh, IsPlaceAt}
 use Rattle.run_values.specs.declared.settings.Settings.{Settings}
-use Rattle.proxy_steps.specs.declared.hands.EndedFeed.{EndedFeed}
-use Rattle.proxy_steps.specs.Lanes.{back_of}
+use Rattle.proxy_laws.specs.declared.hands.EndedFeed.{EndedFeed}
+use Rattle.proxy_laws.specs.Lanes.{back_of}
 use Rattle.proxy_lane.specs.declared.lane.ProxyLeft.{ProxyLeft}
 use Rattle.lane_runs.specs.Seats.{AreSeats, means_for}
 use Rattle.tap_lane.specs.declared.ends.TapLeft.{TapLeft}
@@ -39,7 +39,7 @@ use Rattle.lane_runs.proofs.FactsAt.{facts_at}
 use Rattle.lane_laws.specs.Lines.{started_from}
 use Rattle.lane_laws.specs.Places.{HasLeft, IsGone}
 use Rattle.lane_laws.specs.Taps.{started_at, taken_in}
-use Rattle.proxy_deeds.specs.Lines.{listed}
+use Rattle.proxy_words.specs.Lines.{listed}
 use Rattle.lane_laws.specs.Pipes.{PipeOf, Each, said_on, end_on}
 use Rattle.tap_lane.specs.declared.ends.TapHalt.{TapHalt}
 use Rattle.tap_lane.specs.Lane.{LaneEnds}
@@ -50,10 +50,10 @@ use Rattle.lane_runs.specs.Laws.{HistoryLaws}
 use Rattle.lane_runs.specs.Layout.{AllThere, AreFit, IsLaid, MayBeLaid}
 use Rattle.lane_runs.specs.Blanks.{IsBlankFor}
 use Rattle.lane_runs.specs.declared.blank.Blank.{Blank}
-use Rattle.lane_runs.specs.declared.proxies.ProxySeat.{ProxySeat}
-use Rattle.tap_lane.specs.declared.seat.TapSeat.{TapSeat}
+use Rattle.lane_runs.specs.declared.proxies.ProxyStart.{ProxyStart}
+use Rattle.tap_lane.specs.declared.seat.TapStart.{TapStart}
 use Rattle.seat_desk.specs.declared.machine.Machine.{Ghosts}
-use Rattle.lane_crew.specs.LaneJobs.{EachLane}
+use Rattle.lane_threads.specs.LaneJobs.{EachLane}
 use Rattle.lane_runs.proofs.Crewed.{two_each}
 use Rattle.lane_runs.proofs.Running.{HasRan, each_berth}
 use Rattle.lane_runs.specs.Runs.{EndTold, end_of, line_at, laid_told, Pipe, Outs, Rooms, AreStopped, HasRun}
@@ -392,7 +392,7 @@ module _ {M G Q B D T K P : Type 0} (g : Ghosts M Call Reply G Q) (rules : Q →
   pub crewed : {q bench machine last : Q} {h : History} {speeches : List Speech}
       {settings : Settings} {work : List WorkAction} {olds : List B}
       {ends : List (Either (ProxyLeft B D K) (TapLeft T))} {shelf taps : List (Option T)}
-      {places : List (Option P)} {beside : ℕ} (lanes : List (Either (ProxySeat B) TapSeat)) → bench ≡ q
+      {places : List (Option P)} {beside : ℕ} (lanes : List (Either (ProxyStart B) TapStart)) → bench ≡ q
       → machine ≡ bench → last ≡ machine → length speeches ≤ (rules q).seats → CameAbout (rules last) h
       → TapsLie tap (rules last) h shelf → taps ≡ take (length speeches) shelf
       → PlacesLie place (rules last) h places → AreSeats settings work 0 olds speeches lanes

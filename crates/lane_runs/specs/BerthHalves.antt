@@ -1,6 +1,6 @@
 -- What is left of the lines of a berth, and the halves that it makes.
 use Rattle.std.specs.Prelude.{◌≡◌, ℕ, ◌<◌, All, List, ◌++◌, map, length, Option, option_to_list, zip, flat_map}
-use Rattle.proxy_steps.specs.declared.hands.EndedFeed.{EndedFeed}
+use Rattle.proxy_laws.specs.declared.hands.EndedFeed.{EndedFeed}
 use Rattle.tap_lane.specs.declared.ends.EndedTap.{EndedTap}
 use Rattle.lane_runs.specs.Placed.{Numbered}
 use Rattle.lane_runs.specs.declared.halves.Halves.{Halves}

@@ -3,7 +3,7 @@ use Rattle.std.specs.Prelude.{◌≡◌, ◌<◌, ◌^◌, ℕ, length, List, []
 use Rattle.std.specs.List.{list_any}
 use Rattle.exec_journal.specs.Entries.{is_halt, launch_in}
 use Rattle.exec_journal.specs.Entry.{Entry}
-use Rattle.lane_crew.specs.declared.pair.Either.{Either}
+use Rattle.lane_threads.specs.declared.pair.Either.{Either}
 use Rattle.lane_laws.specs.Numbers.{Distinct}
 use Rattle.core_contract.specs.Moves.{History}
 use Rattle.core_contract.specs.Laws.{lines_in}

@@ -2,7 +2,7 @@
 use Rattle.std.specs.Prelude.{ℕ, ◌+◌, All, IfSome, List, [], ◌∷◌, drop, length}
 use Rattle.exec_journal.specs.Entry.{Entry}
 use Rattle.exec_journal.specs.Facts.{IsOfBerth}
-use Rattle.proxy_steps.specs.declared.hands.EndedFeed.{EndedFeed}
+use Rattle.proxy_laws.specs.declared.hands.EndedFeed.{EndedFeed}
 use Rattle.tap_lane.specs.declared.ends.EndedTap.{EndedTap}
 use Rattle.lane_laws.specs.Numbers.{In, Distinct}
 use Rattle.lane_runs.specs.BerthHalves.{BerthLines, feed_lines}

@@ -6,7 +6,7 @@ use Rattle.core_contract.specs.Moves.{History}
 use Rattle.core_contract.specs.Discipline.{Discipline}
 use Rattle.tick_lane.specs.declared.seat.TickEnd.{TickEnd}
 use Rattle.tick_lane.specs.declared.seat.TickLeft.{TickLeft}
-use Rattle.tick_lane.specs.declared.seat.TickSeat.{TickSeat}
+use Rattle.tick_lane.specs.declared.seat.TickStart.{TickStart}
 use Rattle.tick_lane.specs.Ticks.{LaneTicks}
 
 module _ {W : Type 0} where
@@ -16,12 +16,12 @@ module _ {W : Type 0} where
   MayPace q w (Some pacer) = (w < q.seats) × (q.ticks (proxy_lane w) ≡ true)
 
   -- that lane, as it is to run
-  abbrev pub seat_for : ℕ → Option W → Option (TickSeat W)
+  abbrev pub seat_for : ℕ → Option W → Option (TickStart W)
   seat_for w None = None
   seat_for w (Some pacer) = Some (record { berth = w; pacer = pacer })
 
   -- its pacer, where it hasn't run
-  abbrev pub pacer_back : Option (TickSeat W) → Option W
+  abbrev pub pacer_back : Option (TickStart W) → Option W
   pacer_back None = None
   pacer_back (Some seat) = Some seat.pacer
 

@@ -3,8 +3,8 @@ use Rattle.std.specs.Prelude.{◌≡◌, ℕ, ◌+◌, List, [], ◌∷◌, map,
 use Rattle.seat_desk.specs.History.{calls_by}
 use Rattle.exec_journal.specs.declared.call.Call.{Call}
 use Rattle.exec_journal.specs.declared.reply.Reply.{Reply}
-use Rattle.lane_crew.specs.declared.pair.Either.{Either}
-use Rattle.lane_crew.specs.declared.pair.Either.TheVariants.{First, Second}
+use Rattle.lane_threads.specs.declared.pair.Either.{Either}
+use Rattle.lane_threads.specs.declared.pair.Either.TheVariants.{First, Second}
 use Rattle.outside.specs.Told.{BerthTold, FeedTold, TapTold, ChildTold}
 use Rattle.remote_messages.specs.declared.work.WorkAction.{WorkAction}
 use Rattle.core_contract.specs.Moves.{History}
@@ -12,8 +12,8 @@ use Rattle.core_contract.specs.Duties.{proxy_lane}
 use Rattle.core_contract.specs.Laws.{tap_lane}
 use Rattle.run_plan.specs.declared.plan.Speech.{Speech}
 use Rattle.run_values.specs.declared.settings.Settings.{Settings}
-use Rattle.proxy_steps.specs.Lanes.{back_of}
-use Rattle.proxy_steps.specs.Steps.{Ended}
+use Rattle.proxy_laws.specs.Lanes.{back_of}
+use Rattle.proxy_laws.specs.Steps.{Ended}
 use Rattle.tap_lane.specs.Heard.{back_by}
 use Rattle.tap_lane.specs.Lane.{LaneEnds}
 use Rattle.proxy_lane.specs.declared.lane.ProxyLeft.{ProxyLeft}

@@ -16,15 +16,15 @@ use Rattle.core_contract.specs.Moves.{Past, History}
 use Rattle.core_contract.specs.Shelf.{place_at}
 use Rattle.core_contract.specs.Duties.{proxy_lane}
 use Rattle.core_contract.specs.Laws.{tap_lane, lines_in}
-use Rattle.core_bench.specs.Objects.{IsPlaceAt}
+use Rattle.core_machine.specs.Objects.{IsPlaceAt}
 use Rattle.lane_laws.specs.Numbers.{In}
 use Rattle.lane_laws.specs.Pipes.{PipeOf}
 use Rattle.run_plan.specs.declared.plan.Speech.{Speech}
 use Rattle.run_values.specs.declared.settings.Settings.{Settings}
-use Rattle.proxy_deeds.specs.declared.halt.ProxyHalt.{ProxyHalt}
-use Rattle.proxy_deeds.specs.Lines.{Returned, started_in}
-use Rattle.proxy_steps.specs.Lanes.{back_of}
-use Rattle.proxy_steps.specs.Steps.{Ended}
+use Rattle.proxy_words.specs.declared.halt.ProxyHalt.{ProxyHalt}
+use Rattle.proxy_words.specs.Lines.{Returned, started_in}
+use Rattle.proxy_laws.specs.Lanes.{back_of}
+use Rattle.proxy_laws.specs.Steps.{Ended}
 use Rattle.lane_runs.specs.Seats.{means_for}
 use Rattle.lane_runs.specs.declared.halves.EndedLine.{EndedLine}
 use Rattle.lane_runs.specs.Layout.{has_halt}

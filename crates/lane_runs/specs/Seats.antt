@@ -1,15 +1,15 @@
 -- What the lanes of berths work with.
 use Rattle.std.specs.Prelude.{◌≡◌, ℕ, ◌+◌, List, [], ◌∷◌, ◌++◌, Some, slice_get}
-use Rattle.lane_crew.specs.declared.pair.Either.{Either}
-use Rattle.lane_crew.specs.declared.pair.Either.TheVariants.{First, Second}
+use Rattle.lane_threads.specs.declared.pair.Either.{Either}
+use Rattle.lane_threads.specs.declared.pair.Either.TheVariants.{First, Second}
 use Rattle.run_plan.specs.declared.plan.Speech.{Speech}
 use Rattle.run_plan.specs.Groups.{is_remote}
 use Rattle.core_contract.specs.Discipline.{Discipline}
 use Rattle.run_values.specs.declared.settings.Settings.{Settings}
 use Rattle.run_values.specs.Settings.{Means, speaks_remote}
 use Rattle.remote_messages.specs.declared.work.WorkAction.{WorkAction}
-use Rattle.lane_runs.specs.declared.proxies.ProxySeat.{ProxySeat}
-use Rattle.tap_lane.specs.declared.seat.TapSeat.{TapSeat}
+use Rattle.lane_runs.specs.declared.proxies.ProxyStart.{ProxyStart}
+use Rattle.tap_lane.specs.declared.seat.TapStart.{TapStart}
 
 -- what the orders of a berth that speaks so are carried out by
 abbrev pub means_for : Settings → List WorkAction → Speech → Means
@@ -17,7 +17,7 @@ means_for settings actions spoken =
     record { speech = spoken; settings = settings; actions = actions }
 
 -- the tap lane of the berth w hears this speech
-abbrev pub IsTapSeat : ℕ → Speech → TapSeat → Type 0
+abbrev pub IsTapSeat : ℕ → Speech → TapStart → Type 0
 IsTapSeat w spoken seat = (seat.berth ≡ w) × (seat.speech ≡ spoken)
 
 -- each berth speaks as executors do exactly if it is an executor's
@@ -26,17 +26,17 @@ SpeechesFit q speeches = (w : ℕ) (s : Speech) → slice_get speeches w ≡ Som
     → speaks_remote s ≡ is_remote (q.kinds w)
 
 -- by what the seat has, its orders are carried out
-abbrev pub means_of : {B : Type 0} → ProxySeat B → Means
+abbrev pub means_of : {B : Type 0} → ProxyStart B → Means
 means_of seat = means_for seat.settings.now seat.actions.now seat.speech
 
 module _ {B : Type 0} (settings : Settings) (actions : List WorkAction) where
   -- the proxy lane of this berth, whose number is w, goes by this speech
-  abbrev pub IsProxySeat : ℕ → B → Speech → ProxySeat B → Type 0
+  abbrev pub IsProxySeat : ℕ → B → Speech → ProxyStart B → Type 0
   IsProxySeat w berth spoken seat =
       (seat.berth ≡ berth) × (seat.number ≡ w) × (means_of seat ≡ means_for settings actions spoken)
 
   -- for each of these berths, from the number w on, its proxy lane and then its tap lane
-  abbrev pub AreSeats : ℕ → List B → List Speech → List (Either (ProxySeat B) TapSeat) → Type 0
+  abbrev pub AreSeats : ℕ → List B → List Speech → List (Either (ProxyStart B) TapStart) → Type 0
   AreSeats w [] [] lanes = lanes ≡ []
   AreSeats w (b ∷ bs) (s ∷ ss) (First x ∷ Second y ∷ lanes) =
       IsProxySeat w b s x × IsTapSeat w s y × AreSeats (w + 1) bs ss lanes
@@ -44,15 +44,15 @@ module _ {B : Type 0} (settings : Settings) (actions : List WorkAction) where
 
   -- the two lanes of this berth stand behind those before
   pub record HasSeats (w : ℕ) (berth : B) (spoken : Speech)
-      (old new : List (Either (ProxySeat B) TapSeat)) : Type 0 where
-    pub proxy : ProxySeat B
-    pub heard : TapSeat
+      (old new : List (Either (ProxyStart B) TapStart)) : Type 0 where
+    pub proxy : ProxyStart B
+    pub heard : TapStart
     pub is_proxy : IsProxySeat w berth spoken proxy
     pub is_tap : IsTapSeat w spoken heard
     pub grown : new ≡ old ++ First proxy ∷ Second heard ∷ []
 
 -- the berths of these lanes, in order
-abbrev pub berths_in : {B : Type 0} → List (Either (ProxySeat B) TapSeat) → List B
+abbrev pub berths_in : {B : Type 0} → List (Either (ProxyStart B) TapStart) → List B
 berths_in [] = []
 berths_in (First x ∷ lanes) = x.berth ∷ berths_in lanes
 berths_in (Second y ∷ lanes) = berths_in lanes

@@ -1,6 +1,6 @@
 //! The results of each berth's lanes.
 ghost use Rattle.std.specs.Prelude.{◌≡◌, ◌∷◌, map, length};
-ghost use Rattle.lane_crew.specs.declared.pair.Either.TheVariants.{First, Second};
+ghost use Rattle.lane_threads.specs.declared.pair.Either.TheVariants.{First, Second};
 ghost use Rattle.lane_runs.specs.Apart.{Alternate, BeginsWithTwo, berths_of, lefts_of, unsaid_of};
 ghost use Rattle.lane_runs.specs.BerthHalves.{AreInside, all_halves};
 ghost use Rattle.lane_runs.specs.Placed.{placed_all};
@@ -8,9 +8,9 @@ ghost use Rattle.lane_runs.specs.Blanks.{HasRoom};
 
 use crate::halves::EndedLine;
 use crate::lines::put_halves;
-use lane_crew::Either;
+use lane_threads::Either;
 use proxy_lane::ProxyLeft;
-use proxy_steps::EndedFeed;
+use proxy_laws::EndedFeed;
 use std::collections::VecDeque;
 use tap_lane::TapLeft;
 

@@ -4,7 +4,7 @@ ghost use Rattle.lane_runs.specs.Blanks.{IsBlankFor};
 
 use crate::halves::EndedLine;
 use plain_values::NoMemory;
-use proxy_steps::EndedFeed;
+use proxy_laws::EndedFeed;
 use std::alloc::Global;
 
 /// Empty lists, with room for everything that a run leaves. They are made before the lanes begin, so

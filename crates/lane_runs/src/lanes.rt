@@ -3,15 +3,15 @@ ghost use Rattle.std.specs.Prelude.{◌≡◌, ◌≤◌, ◌+◌, ◌*◌, [], 
 ghost use Rattle.lane_runs.specs.Seats.{AreSeats, HasSeats, berths_in};
 
 use crate::means::AllMeans;
-use crate::proxies::ProxySeat;
-use lane_crew::Either;
+use crate::proxies::ProxyStart;
+use lane_threads::Either;
 use run_plan::Speech;
 use std::alloc::Global;
 use std::collections::VecDeque;
-use tap_lane::TapSeat;
+use tap_lane::TapStart;
 
 /// A lane of a berth: its proxy lane, or its tap lane.
-pub(crate) type BerthLane<'a, B> = Either<ProxySeat<'a, B>, TapSeat>;
+pub(crate) type BerthLane<'a, B> = Either<ProxyStart<'a, B>, TapStart>;
 
 /// Returns the lanes of the berths, in order: for each berth its proxy lane and then its tap lane. Lane
 /// `2w` is the proxy lane of the berth `w`, and lane `2w + 1` its tap lane. It uses the space in `room`
@@ -56,7 +56,7 @@ fn push_seats<'a, B: Drop>(
     ensures len { vec_len lanes.new ≡ vec_len lanes.old + 2 }
     ensures capacity { vec_capacity lanes.new ≡ vec_capacity lanes.old }
 {
-    let proxy = ProxySeat {
+    let proxy = ProxyStart {
         alloc,
         berth,
         number,
@@ -64,7 +64,7 @@ fn push_seats<'a, B: Drop>(
         settings: means.settings,
         actions: means.actions,
     };
-    let heard = TapSeat {
+    let heard = TapStart {
         alloc,
         berth: number,
         speech: proxy.speech,

@@ -9,10 +9,10 @@ use crate::halves::EndedLine;
 use crate::history::{has_halt, lines_ordered};
 use crate::lines::number_lines;
 use exec_journal::{Entry, Journal};
-use lane_crew::Either;
+use lane_threads::Either;
 use outside::Berth;
 use proxy_lane::ProxyLeft;
-use proxy_steps::EndedFeed;
+use proxy_laws::EndedFeed;
 use std::collections::VecDeque;
 use tap_lane::TapLeft;
 

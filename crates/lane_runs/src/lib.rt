@@ -24,5 +24,5 @@ mod run;
 pub use halves::{EndedLine, Halves};
 pub use layout::{Laid, LaidOut};
 pub use means::AllMeans;
-pub use proxy_steps::EndedFeed;
+pub use proxy_laws::EndedFeed;
 pub use run::{NotStarted, Run, Unrun, run_lanes};

@@ -6,7 +6,7 @@ ghost use Rattle.lane_runs.specs.Placed.{placed_all};
 ghost use Rattle.lane_runs.specs.Blanks.{HasRoom};
 
 use crate::halves::{EndedLine, Halves};
-use proxy_steps::EndedFeed;
+use proxy_laws::EndedFeed;
 use std::collections::VecDeque;
 use tap_lane::EndedTap;
 

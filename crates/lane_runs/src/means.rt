@@ -1,7 +1,7 @@
 //! The resources of a run's lanes.
-use run_values::Settings;
 use remote_messages::WorkAction;
 use run_plan::Speech;
+use run_values::Settings;
 
 /// The resources of a run's lanes: speeches, launch settings and work.
 #[derive(Clone, Copy, Drop)]

@@ -2,23 +2,23 @@
 ghost use Rattle.std.specs.Prelude.{◌≡◌, ◌<◌, map};
 ghost use Rattle.std.specs.Option.{option_map};
 ghost use Rattle.seat_desk.specs.Passes.{IsPassOf, IsSamePass, basis};
-ghost use Rattle.lane_crew.specs.Lanes.{IsFresh};
+ghost use Rattle.lane_threads.specs.Lanes.{IsFresh};
 ghost use Rattle.proxy_calls.specs.Calls.{IsProxyOf};
-ghost use Rattle.proxy_deeds.specs.Settings.{FitsSettings};
+ghost use Rattle.proxy_words.specs.Settings.{FitsSettings};
 ghost use Rattle.lane_runs.specs.Seats.{means_of};
-ghost use Rattle.proxy_steps.specs.Lanes.{back_of};
-ghost use Rattle.proxy_steps.specs.Steps.{IsServedBy};
+ghost use Rattle.proxy_laws.specs.Lanes.{back_of};
+ghost use Rattle.proxy_laws.specs.Steps.{IsServedBy};
 ghost use Rattle.run_values.specs.Work.{IsWorkOf};
 
-use core_bench::Bench;
 use core_contract::Rules;
+use core_machine::Bench;
 use lane_bells::Bells;
-use lane_crew::Lane;
+use lane_threads::Lane;
 use outside::{Berth, Place};
-use run_values::Settings;
 use proxy_lane::{ProxyLeft, Site};
 use remote_messages::WorkAction;
 use run_plan::Speech;
+use run_values::Settings;
 use seat_desk::{Desk, Pass};
 use std::alloc::Global;
 use std::sync::Wait;
@@ -26,7 +26,7 @@ use std::thread::Threads;
 
 /// The resources of a berth's proxy lane.
 #[derive(Drop)]
-pub(crate) struct ProxySeat<'a, B> {
+pub(crate) struct ProxyStart<'a, B> {
     pub(crate) alloc: Global,
     pub(crate) berth: B,
     /// The berth's number.
@@ -39,7 +39,7 @@ pub(crate) struct ProxySeat<'a, B> {
 }
 
 impl<'a, B: Berth, P: Place, C: Rules> Lane<Desk<Bench<B, P, C>>, Pass<Bench<B, P, C>>>
-    for ProxySeat<'a, B> {
+    for ProxyStart<'a, B> {
     type End = ProxyLeft<B, B::Feed, B::Child>;
 
     ghost may_run = { λ self desk bells pass. IsPassOf desk pass × IsFresh pass
@@ -59,7 +59,7 @@ impl<'a, B: Berth, P: Place, C: Rules> Lane<Desk<Bench<B, P, C>>, Pass<Bench<B, 
         bells: &Bells,
         pass: Pass<Bench<B, P, C>>,
     ) -> (ProxyLeft<B, B::Feed, B::Child>, Pass<Bench<B, P, C>>) {
-        let ProxySeat {
+        let ProxyStart {
             alloc,
             berth,
             number,

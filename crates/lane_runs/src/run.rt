@@ -1,10 +1,10 @@
 //! Runs the lanes of all berths on threads.
 ghost use Rattle.std.specs.Prelude.{◌≡◌, ◌≤◌, [], length, map, IfOk, IfErr};
-ghost use Rattle.core_bench.specs.Objects.{AreFresh};
+ghost use Rattle.core_machine.specs.Objects.{AreFresh};
 ghost use Rattle.lane_runs.specs.Seats.{SpeechesFit, berths_in};
 ghost use Rattle.run_values.specs.Settings.{AreOfPlan};
 ghost use Rattle.run_values.specs.Work.{IsWorkOf};
-ghost use Rattle.lane_crew.specs.Beside.{count_of};
+ghost use Rattle.lane_threads.specs.Beside.{count_of};
 ghost use Rattle.core_contract.specs.Duties.{proxy_lane};
 ghost use Rattle.lane_runs.specs.Blanks.{HasRoom};
 ghost use Rattle.lane_runs.specs.Paced.{HasPaced, MayPace, pacer_back};
@@ -16,15 +16,15 @@ use crate::lanes::{BerthLane, berths_of, lanes_of};
 use crate::layout::{LaidOut, all_there, lay_out};
 use crate::means::AllMeans;
 use crate::pacing::{pacer_back, pacer_left, seat_for};
-use core_bench::Bench;
 use core_contract::Rules;
-use lane_crew::{Crew, Lack, Unstarted, run_crew_beside};
+use core_machine::Bench;
+use lane_threads::{Crew, Lack, Unstarted, run_crew_beside};
 use outside::{Berth, Place};
 use seat_desk::Machine;
 use std::alloc::Global;
 use std::sync::Wait;
 use std::thread::Threads;
-use tick_lane::{Pacer, TickSeat};
+use tick_lane::{Pacer, TickStart};
 
 /// The objects that lanes will work with, as long as no lane was started.
 #[derive(Drop)]
@@ -170,7 +170,7 @@ fn take_back<B: Berth, P: Place, C: Rules, W: Pacer>(
     blank: Blank<B, B::Feed, B::Tap, B::Child, P>,
     unstarted: (
         Unstarted<Bench<B, P, C>, BerthLane<'_, B>>,
-        Option<TickSeat<W>>,
+        Option<TickStart<W>>,
     ),
 ) -> Unrun<B, P, W>
     requires stands { ⟦<Bench<B, P, C> as Machine>⟧.stands unstarted.0.machine [] }

@@ -8,7 +8,7 @@ ghost use Rattle.message_box.specs.Sides.{state_at, ReaderStands, HasPut, HasSto
 
 use crate::mailbox::{Answer, Ask, Mailbox, READER, Stop};
 use lane_bells::Bells;
-use lane_crew::Caller;
+use lane_threads::Caller;
 use plain_values::NoMemory;
 use std::snapshot::Snapshot;
 use std::sync::Wait;

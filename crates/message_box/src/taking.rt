@@ -7,7 +7,7 @@ ghost use Rattle.message_box.specs.Sides.{MayHaveTaken, took_by};
 
 use crate::mailbox::{Answer, Ask, Mailbox, Stop, TAKER};
 use lane_bells::Bells;
-use lane_crew::Caller;
+use lane_threads::Caller;
 use plain_values::NoMemory;
 use std::alloc::Global;
 use std::sync::Wait;

@@ -178,7 +178,8 @@ fn run<R: Files + AllocGlobal + Processes<Started = SystemProcess> + Wait>(
     run_to_end(rt, alloc, folder, words, env)
 }
 
-impl<R: Files + AllocGlobal + Processes<Started = SystemProcess> + Wait + Drop> Shop for RealShop<R> {
+impl<R: Files + AllocGlobal + Processes<Started = SystemProcess> + Wait + Drop> Shop
+    for RealShop<R> {
     ghost told = { λ s. record { faults = s.faults; log = Some s.log } };
 
     fn faults(&self) -> u64 {

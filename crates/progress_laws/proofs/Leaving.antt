@@ -26,7 +26,7 @@ use Rattle.journal_laws.proofs.Ours as ours
 use Rattle.journal_laws.proofs.Over as v
 use Rattle.journal_laws.proofs.Owed as o
 use Rattle.call_laws.proofs.LastLines as ll
-use Rattle.history_laws.proofs.Fitting as fi
+use Rattle.discipline_laws.proofs.Fitting as fi
 use Rattle.core_contract.specs.Disciplines.{LegalBy, script_of}
 use Rattle.core_contract.specs.Discipline.{Discipline}
 use Rattle.core_contract.specs.News.{question}

@@ -22,7 +22,7 @@ use Rattle.exec_journal.specs.Settled.{all_settled, earliest, earliest_from, que
 use Rattle.exec_journal.specs.Words.{halted, last_line, live}
 use Rattle.exec_journal.proofs.Ruled.{by_bool}
 use Rattle.journal_laws.proofs.Ours as ours
-use Rattle.history_laws.proofs.OwnDiscipline as od
+use Rattle.discipline_laws.proofs.OwnDiscipline as od
 use Rattle.journal_laws.proofs.Claims.{clash}
 use Rattle.journal_laws.proofs.Lanes as la
 use Rattle.core_contract.specs.Disciplines.{LegalBy, own_discipline}

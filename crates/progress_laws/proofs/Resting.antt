@@ -20,7 +20,7 @@ use Rattle.journal_laws.proofs.Claims.{clash, false_by}
 use Rattle.journal_laws.proofs.Known as kn
 use Rattle.journal_laws.proofs.Owed as o
 use Rattle.call_laws.proofs.Owing as ow
-use Rattle.history_laws.proofs.Fitting as fi
+use Rattle.discipline_laws.proofs.Fitting as fi
 use Rattle.core_contract.specs.Disciplines.{LegalBy, script_of}
 use Rattle.core_contract.specs.Discipline.{Discipline}
 use Rattle.core_contract.specs.News.{question}

@@ -13,7 +13,7 @@ use Rattle.exec_journal.specs.Lawful as lw
 use Rattle.exec_journal.specs.Lawful.{Lawful}
 use Rattle.exec_journal.specs.Rules as r
 use Rattle.journal_laws.proofs.Claims.{clash}
-use Rattle.history_laws.proofs.Fitting as fi
+use Rattle.discipline_laws.proofs.Fitting as fi
 use Rattle.core_contract.specs.Disciplines.{LegalBy}
 use Rattle.core_contract.specs.Discipline.{Discipline}
 use Rattle.journal_laws.proofs.Lanes as la

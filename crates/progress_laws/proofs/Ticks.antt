@@ -21,7 +21,7 @@ use Rattle.exec_journal.specs.declared.call.Call.{Call}
 use Rattle.core_contract.specs.Disciplines.{LegalBy}
 use Rattle.core_contract.specs.News.{question}
 use Rattle.exec_journal.specs.declared.call.HowEnded.TheVariants as end
-use Rattle.history_laws.proofs.Fitting as fi
+use Rattle.discipline_laws.proofs.Fitting as fi
 use Rattle.delay_rules.specs.Delayed as de
 use Rattle.delay_rules.specs.Delayed.{delayed_discipline}
 use Rattle.delay_rules.proofs.Lawful as dl

@@ -15,10 +15,10 @@ use Rattle.core_contract.specs.Moves.{Past, History, Move, ask_moves, proxy_move
 use Rattle.core_contract.specs.Shelf.{child_at}
 use Rattle.core_contract.specs.Laws.{OrderFits, OrderHolds, lines_in}
 use Rattle.core_contract.specs.Duties.{Duty, Asks, proxy_lane, may_do}
-use Rattle.core_bench.specs.declared.shelf.Good.{Good}
-use Rattle.core_bench.specs.declared.shelf.Good.TheVariants as good
-use Rattle.core_bench.proofs.Own.{child_is_own}
-use Rattle.core_bench.specs.Bench.{IsChild, Comes, ComesOut}
+use Rattle.core_machine.specs.declared.shelf.Good.{Good}
+use Rattle.core_machine.specs.declared.shelf.Good.TheVariants as good
+use Rattle.core_machine.proofs.Own.{child_is_own}
+use Rattle.core_machine.specs.Bench.{IsChild, Comes, ComesOut}
 use Rattle.proxy_calls.specs.Goods.{IsChildThere, child_good}
 use Rattle.exec_journal.specs.Idle.{is_idle}
 use Rattle.proxy_calls.specs.Orders.{GivesChild, lines_with}

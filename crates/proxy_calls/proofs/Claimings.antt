@@ -23,9 +23,9 @@ use Rattle.core_contract.specs.Moves.{Past, History, Move, Nothing, claim_moves}
 use Rattle.core_contract.specs.Shelf.{Fresh}
 use Rattle.core_contract.specs.Laws.{fits_claim, claimed, claimed_by}
 use Rattle.core_contract.specs.Duties.{Duty, Asks, Commits, ordered, duty_of_claim, duty_from, duty_by, duty_of, proxy_lane, may_do}
-use Rattle.core_bench.specs.declared.shelf.Good.{Good}
-use Rattle.core_bench.specs.declared.shelf.Good.TheVariants as good
-use Rattle.core_bench.specs.Bench.{IsPlace, Comes, ComesOut}
+use Rattle.core_machine.specs.declared.shelf.Good.{Good}
+use Rattle.core_machine.specs.declared.shelf.Good.TheVariants as good
+use Rattle.core_machine.specs.Bench.{IsPlace, Comes, ComesOut}
 use Rattle.proxy_calls.specs.Goods.{place_good}
 use Rattle.proxy_calls.specs.Claims.{claim_of, OwesCommit, IsGranted}
 use Rattle.proxy_calls.proofs.Replies.{is_noted, claim_is_kept}

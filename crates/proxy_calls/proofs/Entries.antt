@@ -13,7 +13,7 @@ use Rattle.exec_journal.specs.Entries.{is_kept}
 use Rattle.core_contract.specs.Moves.{Past, History, tap_move, proxy_move, move_in}
 use Rattle.core_contract.specs.Laws.{is_short, says_file, fits, Fits, InScript, claimed, claimed_by}
 use Rattle.core_contract.specs.Duties.{Duty, proxy_lane, duty_then, duty_of, Asks}
-use Rattle.core_bench.specs.BenchLaws.{calls_stay}
+use Rattle.core_machine.specs.BenchLaws.{calls_stay}
 
 -- an entry joins the history
 abbrev pub keeps : Past → Bool

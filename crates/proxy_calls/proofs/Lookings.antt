@@ -16,8 +16,8 @@ use Rattle.core_contract.specs.Laws.{is_short, says_file, fits_look, Fits, InScr
 use Rattle.core_contract.specs.Duties.{Duty, Sends, is_maker, may_do, duty_of, proxy_lane}
 use Rattle.run_plan.specs.declared.plan.Maker.{Maker}
 use Rattle.exec_journal.specs.declared.call.Wanted.TheVariants as wanted
-use Rattle.core_bench.specs.BenchLaws.{short_not_kept}
-use Rattle.proxy_deeds.specs.Told.{reply_for, IsTold}
+use Rattle.core_machine.specs.BenchLaws.{short_not_kept}
+use Rattle.proxy_words.specs.Told.{reply_for, IsTold}
 use Rattle.proxy_calls.specs.Looks.{told_as, OwesSend}
 use Rattle.proxy_calls.proofs.Replies.{look_not_kept}
 use Rattle.proxy_calls.proofs.Entries.{keeps, same_after, own_at, scripted}

@@ -12,7 +12,7 @@ use Rattle.exec_journal.specs.declared.call.Call.TheVariants as call
 use Rattle.exec_journal.specs.declared.call.Wanted.{Wanted}
 use Rattle.exec_journal.specs.declared.reply.Reply.{Reply}
 use Rattle.exec_journal.specs.declared.reply.Reply.TheVariants as reply
-use Rattle.proxy_deeds.specs.Told.{reply_for, IsTold}
+use Rattle.proxy_words.specs.Told.{reply_for, IsTold}
 use Rattle.core_contract.specs.Discipline.{Discipline}
 use Rattle.core_contract.specs.Keeps.{Keeps}
 use Rattle.core_contract.specs.Ruled.{answer_after}

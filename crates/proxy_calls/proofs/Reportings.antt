@@ -11,9 +11,9 @@ use Rattle.core_contract.specs.Discipline.{Discipline}
 use Rattle.core_contract.specs.Moves.{History}
 use Rattle.core_contract.specs.Laws.{says_file, fits, fits_noted}
 use Rattle.core_contract.specs.Duties.{Duty, Asks, Launches, Sends, Cancels, Gathers, Commits, Kills, Left, duty_from, duty_by, duty_of, may_do}
-use Rattle.core_bench.specs.Bench.{GoesIn}
+use Rattle.core_machine.specs.Bench.{GoesIn}
 use Rattle.exec_journal.specs.declared.call.Started.{Started}
-use Rattle.proxy_deeds.specs.Ends.{may_halt}
+use Rattle.proxy_words.specs.Ends.{may_halt}
 use Rattle.proxy_calls.specs.Reports.{is_report}
 use Rattle.seat_desk.specs.History.{entry, StartsWith}
 use Rattle.proxy_calls.proofs.Replies.{never_noted}

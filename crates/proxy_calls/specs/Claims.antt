@@ -17,7 +17,7 @@ use Rattle.core_contract.specs.Moves.{History}
 use Rattle.core_contract.specs.Shelf.{Fresh}
 use Rattle.core_contract.specs.Duties.{Asks, Commits, duty_of}
 use Rattle.core_contract.specs.Laws.{claimed}
-use Rattle.core_bench.specs.Objects.{IsPlaceAt}
+use Rattle.core_machine.specs.Objects.{IsPlaceAt}
 use Rattle.proxy_calls.specs.Calls.{MakesOne}
 
 abbrev pub claim_of : Attempt → Found → Call

@@ -2,8 +2,8 @@
 use Rattle.std.specs.Prelude.{◌≡◌, ℕ, Option, Some, None}
 use Rattle.outside.specs.Launches.{IsNewChild}
 use Rattle.outside.specs.Told.{ChildTold}
-use Rattle.core_bench.specs.declared.shelf.Good.{Good}
-use Rattle.core_bench.specs.declared.shelf.Good.TheVariants as good
+use Rattle.core_machine.specs.declared.shelf.Good.{Good}
+use Rattle.core_machine.specs.declared.shelf.Good.TheVariants as good
 
 module _ {K T P : Type 0} where
   abbrev pub child_good : Option (Good K T P) → Option K

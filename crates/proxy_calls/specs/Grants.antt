@@ -8,7 +8,7 @@ use Rattle.exec_journal.specs.declared.reply.Reply.{Reply}
 use Rattle.outside.specs.Told.{PlaceTold}
 use Rattle.core_contract.specs.Discipline.{Discipline, outputs_in}
 use Rattle.core_contract.specs.Shelf.{Fresh}
-use Rattle.core_bench.specs.Objects.{IsPlaceAt}
+use Rattle.core_machine.specs.Objects.{IsPlaceAt}
 use Rattle.proxy_calls.specs.declared.claiming.Grant.{Grant}
 use Rattle.proxy_calls.specs.Claims.{OwesCommit}
 

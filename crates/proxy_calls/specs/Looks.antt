@@ -6,7 +6,7 @@ use Rattle.exec_journal.specs.declared.call.Wanted.{Wanted}
 use Rattle.exec_journal.specs.declared.call.Wanted.TheVariants as wanted
 use Rattle.core_contract.specs.Moves.{History}
 use Rattle.core_contract.specs.Duties.{Sends, duty_of}
-use Rattle.proxy_deeds.specs.Deeds.{Looked}
+use Rattle.proxy_words.specs.Deeds.{Looked}
 
 abbrev pub told_as : Wanted → Option (List ℕ) → Looked
 told_as wanted found = record { wanted = wanted; found = found }

@@ -16,7 +16,7 @@ use Rattle.outside.specs.Told.{ChildTold}
 use Rattle.core_contract.specs.Discipline.{Discipline}
 use Rattle.core_contract.specs.Shelf.{child_at}
 use Rattle.core_contract.specs.Laws.{OrderFits, OrderHolds, lines_in}
-use Rattle.core_bench.specs.declared.shelf.Good.{Good}
+use Rattle.core_machine.specs.declared.shelf.Good.{Good}
 use Rattle.proxy_calls.specs.declared.asking.Order.{Order}
 use Rattle.proxy_calls.specs.declared.asking.Order.TheVariants as order
 use Rattle.proxy_calls.specs.Calls.{MakesOne}

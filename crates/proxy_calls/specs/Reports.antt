@@ -11,8 +11,8 @@ use Rattle.exec_journal.specs.declared.reply.Reply.{Reply}
 use Rattle.exec_journal.specs.declared.reply.Reply.TheVariants as reply
 use Rattle.core_contract.specs.Moves.{History}
 use Rattle.core_contract.specs.Duties.{Asks, Launches, duty_of}
-use Rattle.proxy_deeds.specs.declared.halt.ProxyHalt.{ProxyHalt}
-use Rattle.proxy_deeds.specs.declared.halt.ProxyHalt.TheVariants as cause
+use Rattle.proxy_words.specs.declared.halt.ProxyHalt.{ProxyHalt}
+use Rattle.proxy_words.specs.declared.halt.ProxyHalt.TheVariants as cause
 use Rattle.proxy_calls.specs.Calls.{MakesNone, MakesOne}
 
 abbrev pub is_report : Call → Bool

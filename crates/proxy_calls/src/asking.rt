@@ -2,7 +2,7 @@
 ghost use Rattle.std.specs.Prelude.{◌≡◌, ◌<◌, false, true, IfOk, IfErr};
 ghost use Rattle.seat_desk.specs.Passes.{IsSamePass, mine};
 ghost use Rattle.exec_journal.specs.declared.call.Call.TheVariants as call;
-ghost use Rattle.proxy_deeds.specs.declared.halt.ProxyHalt.TheVariants as cause;
+ghost use Rattle.proxy_words.specs.declared.halt.ProxyHalt.TheVariants as cause;
 ghost use Rattle.core_contract.specs.Laws.{fits_ask};
 ghost use Rattle.core_contract.specs.Duties.{Asks, duty_of};
 ghost use Rattle.proxy_calls.specs.Calls.{IsProxyOf, MakesNone};
@@ -10,12 +10,12 @@ ghost use Rattle.exec_journal.specs.Idle.{is_idle, idle_not_kept};
 ghost use Rattle.proxy_calls.specs.Orders.{GivesChild, IsOrdered, HasAsked};
 
 use crate::goods::child_in;
-use core_bench::{Bench, Good};
 use core_contract::Rules;
+use core_machine::{Bench, Good};
 use exec_journal::{Attempt, Call, Reply};
-use lane_crew::{Caller, Question};
+use lane_threads::{Caller, Question};
 use outside::{Berth, Place};
-use proxy_deeds::ProxyHalt;
+use proxy_words::ProxyHalt;
 use std::sync::Wait;
 
 /// An answer waiting to be gathered, with its line and its attempt.

@@ -3,21 +3,21 @@ ghost use Rattle.std.specs.Prelude.{◌≡◌, ◌<◌, ◌^◌, true, length, I
 ghost use Rattle.seat_desk.specs.Passes.{IsSamePass, mine, basis};
 ghost use Rattle.core_contract.specs.Shelf.{Fresh, Back};
 ghost use Rattle.core_contract.specs.Duties.{Asks, duty_of};
-ghost use Rattle.core_bench.specs.Objects.{IsPlaceAt};
-ghost use Rattle.proxy_deeds.specs.declared.halt.ProxyHalt.TheVariants as cause;
+ghost use Rattle.core_machine.specs.Objects.{IsPlaceAt};
+ghost use Rattle.proxy_words.specs.declared.halt.ProxyHalt.TheVariants as cause;
 ghost use Rattle.proxy_calls.specs.Calls.{IsProxyOf, MakesNone, MayMake};
 ghost use Rattle.proxy_calls.specs.Claims.{claim_of, HasClaimed, HasCommitted};
 ghost use Rattle.proxy_calls.specs.Grants.{MayCommit};
 
 use crate::goods::place_in;
-use core_bench::{Bench, Good};
 use core_contract::Rules;
+use core_machine::{Bench, Good};
 use exec_journal::{Attempt, Call, CommitEnd, Found};
-use lane_crew::Caller;
+use lane_threads::Caller;
 use output_commit::{Committed, commit};
 use outside::{Berth, Place};
 use plain_values::{Blob, Text};
-use proxy_deeds::ProxyHalt;
+use proxy_words::ProxyHalt;
 use seat_desk::Refused;
 use std::sync::Wait;
 

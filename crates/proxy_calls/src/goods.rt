@@ -2,7 +2,7 @@
 ghost use Rattle.std.specs.Prelude.{◌≡◌};
 ghost use Rattle.proxy_calls.specs.Goods.{child_good, line_child, place_good};
 
-use core_bench::Good;
+use core_machine::Good;
 
 /// Returns the child that came out.
 pub(crate) fn child_in<K: Drop, T: Drop, P: Drop>(good: Option<Good<K, T, P>>) -> Option<K>

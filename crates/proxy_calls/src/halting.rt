@@ -5,15 +5,15 @@ ghost use Rattle.exec_journal.specs.declared.call.Call.TheVariants as call;
 ghost use Rattle.exec_journal.specs.declared.reply.Reply.TheVariants as reply;
 ghost use Rattle.core_contract.specs.Duties.{duty_of};
 ghost use Rattle.core_contract.specs.Shelf.{child_at};
-ghost use Rattle.proxy_deeds.specs.Ends.{may_halt};
+ghost use Rattle.proxy_words.specs.Ends.{may_halt};
 ghost use Rattle.proxy_calls.specs.Calls.{IsProxyOf, MakesOne};
 ghost use Rattle.proxy_calls.specs.Goods.{IsChildThere};
 
 use crate::goods::child_in;
-use core_bench::Bench;
 use core_contract::Rules;
+use core_machine::Bench;
 use exec_journal::Call;
-use lane_crew::Caller;
+use lane_threads::Caller;
 use outside::{Berth, Place};
 use std::sync::Wait;
 

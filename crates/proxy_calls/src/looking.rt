@@ -4,15 +4,15 @@ ghost use Rattle.core_contract.specs.Ruled.{answer_after};
 ghost use Rattle.std.specs.Prelude.{◌≡◌, true, IfOk};
 ghost use Rattle.seat_desk.specs.Passes.{mine, basis, seen};
 ghost use Rattle.exec_journal.specs.declared.call.Call.TheVariants as call;
-ghost use Rattle.proxy_deeds.specs.Told.{IsTold, reply_for};
+ghost use Rattle.proxy_words.specs.Told.{IsTold, reply_for};
 ghost use Rattle.proxy_calls.specs.Calls.{IsProxyOf, MayMake, Stays};
 ghost use Rattle.core_contract.specs.Duties.{is_maker};
 ghost use Rattle.proxy_calls.specs.Looks.{told_as, made_as, OwesSend};
 
-use core_bench::Bench;
 use core_contract::Rules;
+use core_machine::Bench;
 use exec_journal::{Attempt, Call, Reply, Wanted};
-use lane_crew::Caller;
+use lane_threads::Caller;
 use outside::{Berth, Place};
 use plain_values::{Blob, NoMemory};
 use run_plan::Maker;

@@ -10,12 +10,12 @@ ghost use Rattle.proxy_calls.specs.Calls.{IsProxyOf, MakesNone, MakesOne, MayMak
 ghost use Rattle.proxy_calls.specs.Reports.{is_report, OwesLaunch, Reports};
 
 use crate::goods::child_back;
-use core_bench::{Bench, Good};
 use core_contract::Rules;
+use core_machine::{Bench, Good};
 use exec_journal::{Call, Started};
-use lane_crew::Caller;
+use lane_threads::Caller;
 use outside::{Berth, Place};
-use proxy_deeds::ProxyHalt;
+use proxy_words::ProxyHalt;
 use seat_desk::Refused;
 use std::sync::Wait;
 

@@ -17,19 +17,19 @@ use Rattle.remote_messages.specs.declared.work.WorkAction.{WorkAction}
 use Rattle.core_contract.specs.Discipline.{Discipline, makers_in, outputs_in}
 use Rattle.core_contract.specs.Shelf.{child_at}
 use Rattle.core_contract.specs.Duties.{Asks, duty_of}
-use Rattle.proxy_deeds.specs.declared.halt.ProxyHalt.{ProxyHalt}
-use Rattle.proxy_deeds.specs.declared.halt.ProxyHalt.TheVariants as cause
-use Rattle.proxy_deeds.specs.Settings.{FitsSettings}
+use Rattle.proxy_words.specs.declared.halt.ProxyHalt.{ProxyHalt}
+use Rattle.proxy_words.specs.declared.halt.ProxyHalt.TheVariants as cause
+use Rattle.proxy_words.specs.Settings.{FitsSettings}
 use Rattle.run_values.specs.Settings.{HasGroup, Means}
 use Rattle.proxy_calls.specs.Calls.{MakesNone, MakesOne, Stays}
 use Rattle.proxy_calls.specs.Reports.{Told}
 use Rattle.proxy_calls.specs.declared.asking.Order.{Order}
 use Rattle.outside.specs.Told.{BerthTold, ChildTold, FeedTold}
 use Rattle.run_values.specs.Work.{IsWork, IsWorkOf}
-use Rattle.proxy_steps.specs.Lanes.{LaneObjects, Open, open_line}
-use Rattle.proxy_steps.specs.Steps.{open_in, IsShelved, IsLaidBy, Goes, Halts, TellsWrote, IsCauseOf}
-use Rattle.proxy_steps.proofs.Sends.{starts_later}
-use Rattle.proxy_steps.proofs.Serving.{proxy_on, by_rules}
+use Rattle.proxy_laws.specs.Lanes.{LaneObjects, Open, open_line}
+use Rattle.proxy_laws.specs.Steps.{open_in, IsShelved, IsLaidBy, Goes, Halts, TellsWrote, IsCauseOf}
+use Rattle.proxy_laws.proofs.Sends.{starts_later}
+use Rattle.proxy_laws.proofs.Serving.{proxy_on, by_rules}
 use Rattle.proxy_lane.specs.Held.{ByOpenLine, IsOpen, with_berth}
 use Rattle.proxy_lane.specs.declared.site.Site.{Site}
 use Rattle.proxy_lane.specs.declared.site.Request.{Request}

@@ -2,9 +2,9 @@
 use Rattle.std.specs.Prelude.{◌≡◌, ◌<◌, ℕ, [], map, Option, Some, None, option_map, vec_len, vec_capacity}
 use Rattle.std.specs.Global.{Vec}
 use Rattle.outside.specs.Told.{BerthTold, FeedTold, ChildTold}
-use Rattle.proxy_steps.specs.declared.hands.EndedFeed.{EndedFeed}
-use Rattle.proxy_steps.specs.declared.hands.OpenFeed.{OpenFeed}
-use Rattle.proxy_steps.specs.Lanes.{LaneObjects, Open, open_of, back_of}
+use Rattle.proxy_laws.specs.declared.hands.EndedFeed.{EndedFeed}
+use Rattle.proxy_laws.specs.declared.hands.OpenFeed.{OpenFeed}
+use Rattle.proxy_laws.specs.Lanes.{LaneObjects, Open, open_of, back_of}
 
 abbrev pub held_of : {B D K : Type 0} → (B → BerthTold) → (D → FeedTold) → (K → ChildTold)
     → B → Option (OpenFeed D) → Vec (EndedFeed D K) → Option (EndedFeed D K) → LaneObjects

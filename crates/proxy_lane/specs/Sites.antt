@@ -16,20 +16,20 @@ use Rattle.core_contract.specs.Ruled.{answer_after}
 use Rattle.core_contract.specs.Moves.{History}
 use Rattle.core_contract.specs.Discipline.{Discipline, makers_in, outputs_in}
 use Rattle.core_contract.specs.Duties.{Duty, Asks, Sends, duty_of}
-use Rattle.proxy_deeds.specs.declared.halt.ProxyHalt.{ProxyHalt}
-use Rattle.proxy_deeds.specs.Settings.{FitsSettings}
+use Rattle.proxy_words.specs.declared.halt.ProxyHalt.{ProxyHalt}
+use Rattle.proxy_words.specs.Settings.{FitsSettings}
 use Rattle.run_values.specs.Settings.{HasGroup, Means}
-use Rattle.proxy_deeds.specs.Deeds.{Looked}
-use Rattle.proxy_deeds.specs.Ends.{may_halt}
-use Rattle.proxy_deeds.specs.Told.{AreTold}
+use Rattle.proxy_words.specs.Deeds.{Looked}
+use Rattle.proxy_words.specs.Ends.{may_halt}
+use Rattle.proxy_words.specs.Told.{AreTold}
 use Rattle.outside.specs.Told.{ChildTold}
 use Rattle.proxy_calls.specs.declared.asking.Answered.{Answered}
 use Rattle.proxy_calls.specs.declared.asking.Order.{Order}
 use Rattle.proxy_calls.specs.Calls.{IsProxyOf, MakesNone, MakesOne, Stays}
 use Rattle.run_values.specs.Work.{IsWork, IsWorkOf}
-use Rattle.proxy_steps.specs.Acts.{GatherActs, IsAnswered, SendActs}
-use Rattle.proxy_steps.specs.Lanes.{LaneObjects}
-use Rattle.proxy_steps.specs.Steps.{open_in, gathers, IsShelved, MayObey, Goes, GoesTo, Halts, Finishes, SomeKeeps, AreLaidBy, OwesClaim, ClaimsFound, IsCauseOfClaim, TellsWrote, IsCauseOf}
+use Rattle.proxy_laws.specs.Acts.{GatherActs, IsAnswered, SendActs}
+use Rattle.proxy_laws.specs.Lanes.{LaneObjects}
+use Rattle.proxy_laws.specs.Steps.{open_in, gathers, IsShelved, MayObey, Goes, GoesTo, Halts, Finishes, SomeKeeps, AreLaidBy, OwesClaim, ClaimsFound, IsCauseOfClaim, TellsWrote, IsCauseOf}
 use Rattle.run_plan.specs.declared.plan.Plan.{Plan}
 use Rattle.proxy_lane.specs.Held.{ByOpenLine}
 use Rattle.proxy_lane.specs.declared.site.Site.{Site}

@@ -8,11 +8,11 @@ use Rattle.outside.specs.Told.{BerthTold, FeedTold}
 use Rattle.sandbox_rooms.specs.declared.room.Room.{Room}
 use Rattle.sandbox_rooms.specs.Calls.{Asked}
 use Rattle.sandbox_rooms.specs.Rooms.{prepare_asks}
-use Rattle.due_frames.specs.declared.frames.Due.{Due}
-use Rattle.due_frames.specs.declared.requests.DueWork.{DueWork}
+use Rattle.request_frames.specs.declared.frames.Due.{Due}
+use Rattle.request_frames.specs.declared.requests.DueWork.{DueWork}
 use Rattle.run_values.specs.Settings.{speaks_remote}
-use Rattle.proxy_deeds.specs.Deeds.{send_asks, due_for}
-use Rattle.proxy_steps.specs.Acts.{CancelActs}
+use Rattle.proxy_words.specs.Deeds.{send_asks, due_for}
+use Rattle.proxy_laws.specs.Acts.{CancelActs}
 use Rattle.proxy_lane.specs.declared.site.Site.{Site}
 use Rattle.proxy_lane.specs.Sites.{means_at}
 

@@ -1,24 +1,24 @@
 //! A proxy lane's work for a Gather.
 ghost use Rattle.std.specs.Prelude.{◌≡◌, ◌<◌, ◌^◌, IfOk, OnErr, length};
 ghost use Rattle.sandbox_rooms.specs.Rooms.{gather_asks};
-ghost use Rattle.order_acts.specs.Acts.{ReportsLooks, FoundFits};
+ghost use Rattle.berth_acts.specs.Acts.{ReportsLooks, FoundFits};
 ghost use Rattle.proxy_calls.specs.declared.asking.Order.TheVariants as order;
-ghost use Rattle.proxy_steps.specs.Steps.{OwesClaim, files_in, HasFiles};
+ghost use Rattle.proxy_laws.specs.Steps.{OwesClaim, files_in, HasFiles};
 ghost use Rattle.proxy_lane.specs.Held.{with_berth};
 ghost use Rattle.proxy_lane.specs.Sites.{IsOrdered, IsToGather, IsGood, MayClaim, StaysHere, HasAnswered, GathersAt, Claims, Obeys};
 
 use crate::hands::{Hands, action_at, is_executor};
 use crate::lane::ProxyLane;
-use core_bench::Bench;
+use berth_acts::gather_line;
 use core_contract::Rules;
-use due_frames::room_of;
+use core_machine::Bench;
 use exec_journal::{Attempt, Found, Wanted};
-use order_acts::gather_line;
 use outside::{Berth, Place};
 use plain_values::{Blob, Items, NoMemory, Text};
 use proxy_calls::{Answered, Grant, claim, commit_files, look};
-use proxy_deeds::ProxyHalt;
+use proxy_words::ProxyHalt;
 use remote_messages::WorkAction;
+use request_frames::room_of;
 use sandbox_rooms::Room;
 use std::alloc::Global;
 use std::sync::Wait;

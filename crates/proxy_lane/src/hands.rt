@@ -2,11 +2,11 @@
 ghost use Rattle.std.specs.Prelude.{◌≡◌, ◌<◌, length, slice_get, Some};
 ghost use Rattle.outside.specs.Launches.{IsNewChild};
 ghost use Rattle.run_values.specs.Settings.{speaks_remote};
-ghost use Rattle.proxy_steps.specs.Steps.{open_in, IsLaidBy};
+ghost use Rattle.proxy_laws.specs.Steps.{open_in, IsLaidBy};
 ghost use Rattle.proxy_lane.specs.Held.{first_held};
 
 use outside::Berth;
-use proxy_steps::{EndedFeed, OpenFeed};
+use proxy_laws::{EndedFeed, OpenFeed};
 use remote_messages::WorkAction;
 use run_plan::Speech;
 use std::alloc::Global;
@@ -24,7 +24,7 @@ pub(crate) struct Hands<B: Berth> {
 }
 
 impl<B: Berth> Model for Hands<B> {
-    ghost use Rattle.proxy_steps.specs.Lanes.{LaneObjects};
+    ghost use Rattle.proxy_laws.specs.Lanes.{LaneObjects};
     ghost use Rattle.proxy_lane.specs.Held.{held_of, HasRoom};
 
     ghost Value = { LaneObjects };

@@ -1,16 +1,16 @@
 //! The inputs of a request, with their bytes.
 ghost use Rattle.core_contract.specs.Discipline.{makers_in};
 ghost use Rattle.std.specs.Prelude.{◌≡◌, IfOk};
-ghost use Rattle.due_frames.specs.Requests.{IsFrom};
-ghost use Rattle.proxy_deeds.specs.Deeds.{AreInputs, look_at, looks_of};
+ghost use Rattle.request_frames.specs.Requests.{IsFrom};
+ghost use Rattle.proxy_words.specs.Deeds.{AreInputs, look_at, looks_of};
 ghost use Rattle.run_values.specs.Work.{IsMadeBy};
 ghost use Rattle.proxy_lane.specs.Sites.{IsDue, StaysHere, WereTold, plan_at};
 
 use crate::hands::is_executor;
 use crate::lane::ProxyLane;
 use crate::site::Request;
-use core_bench::Bench;
 use core_contract::Rules;
+use core_machine::Bench;
 use outside::{Berth, Place};
 use plain_values::{Blob, NoMemory, Text};
 use proxy_calls::look_made;

@@ -3,12 +3,12 @@ ghost use Rattle.proxy_calls.specs.declared.asking.Order.TheVariants as order;
 ghost use Rattle.proxy_lane.specs.Sites.{IsOrdered, MayGiveUp, GivesUp, Obeys};
 
 use crate::lane::ProxyLane;
-use core_bench::Bench;
 use core_contract::Rules;
+use core_machine::Bench;
 use exec_journal::Call;
 use outside::{Berth, Place};
 use proxy_calls::{halt, tell};
-use proxy_deeds::ProxyHalt;
+use proxy_words::ProxyHalt;
 use std::sync::Wait;
 
 impl<'a, B: Berth, P: Place, C: Rules, R: Wait> ProxyLane<'a, Bench<B, P, C>, B, R> {

@@ -1,20 +1,20 @@
 //! The whole lane: round after round, to its end.
 ghost use Rattle.std.specs.Prelude.{◌≡◌, ◌<◌, [], map, option_map};
 ghost use Rattle.seat_desk.specs.Passes.{IsPassOf, IsSamePass, mine};
-ghost use Rattle.proxy_steps.specs.Lanes.{back_of};
-ghost use Rattle.proxy_steps.specs.Steps.{IsServedBy};
+ghost use Rattle.proxy_laws.specs.Lanes.{back_of};
+ghost use Rattle.proxy_laws.specs.Steps.{IsServedBy};
 ghost use Rattle.proxy_lane.specs.Sites.{means_at, IsSite, IsOrdered, IsReady, Obeys, Rounds, Serves};
 
 use crate::hands::Hands;
 use crate::site::Site;
-use core_bench::Bench;
 use core_contract::Rules;
+use core_machine::Bench;
 use lane_bells::Bells;
-use lane_crew::Caller;
+use lane_threads::Caller;
 use outside::{Berth, Place};
 use proxy_calls::{Order, ask};
-use proxy_deeds::ProxyHalt;
-use proxy_steps::EndedFeed;
+use proxy_laws::EndedFeed;
+use proxy_words::ProxyHalt;
 use seat_desk::{Desk, Machine, Pass};
 use std::sync::Wait;
 

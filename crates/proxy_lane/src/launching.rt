@@ -3,14 +3,14 @@ ghost use Rattle.proxy_calls.specs.declared.asking.Order.TheVariants as order;
 ghost use Rattle.proxy_lane.specs.Sites.{IsOrdered, Obeys};
 
 use crate::lane::ProxyLane;
-use core_bench::Bench;
+use berth_acts::{Opened, launch_line};
 use core_contract::Rules;
+use core_machine::Bench;
 use exec_journal::{Attempt, Call, Started};
-use order_acts::{Opened, launch_line};
 use outside::{Berth, Place};
 use proxy_calls::{Unsaid, tell, tell_started};
-use proxy_deeds::ProxyHalt;
-use proxy_steps::{EndedFeed, OpenFeed};
+use proxy_laws::{EndedFeed, OpenFeed};
+use proxy_words::ProxyHalt;
 use std::sync::Wait;
 
 impl<'a, B: Berth, P: Place, C: Rules, R: Wait> ProxyLane<'a, Bench<B, P, C>, B, R> {

@@ -1,10 +1,10 @@
 //! The work for a Send and for a Cancel.
 ghost use Rattle.seat_desk.specs.Passes.{mine};
 ghost use Rattle.proxy_calls.specs.declared.asking.Order.TheVariants as order;
-ghost use Rattle.proxy_steps.specs.Acts.{Writes, CancelActs};
-ghost use Rattle.proxy_steps.specs.Steps.{OwesWrote};
-ghost use Rattle.due_frames.specs.declared.frames.Due.TheVariants.{Frame};
-ghost use Rattle.due_frames.specs.Due.{HasSources};
+ghost use Rattle.proxy_laws.specs.Acts.{Writes, CancelActs};
+ghost use Rattle.proxy_laws.specs.Steps.{OwesWrote};
+ghost use Rattle.request_frames.specs.declared.frames.Due.TheVariants.{Frame};
+ghost use Rattle.request_frames.specs.Due.{HasSources};
 ghost use Rattle.run_values.specs.Settings.{HasGroup};
 ghost use Rattle.proxy_lane.specs.Held.{ByOpenLine, IsOpen};
 ghost use Rattle.proxy_lane.specs.Sites.{IsSite, IsDue, IsOrdered, StaysHere, SendsAt, ReportsWrote, Obeys};
@@ -14,16 +14,16 @@ use crate::hands::{Hands, action_at, is_executor};
 use crate::inputs::know_digests;
 use crate::lane::ProxyLane;
 use crate::site::{Request, Site};
-use core_bench::Bench;
+use berth_acts::{RoomFiles, give, send_line};
 use core_contract::Rules;
-use due_frames::{Due, DueWork, cancel_frame, room_of, send_frame};
+use core_machine::Bench;
 use exec_journal::{Attempt, Call, Written};
-use order_acts::{RoomFiles, give, send_line};
 use outside::{Berth, Feed, Place};
 use plain_values::NoMemory;
 use proxy_calls::tell;
-use proxy_deeds::ProxyHalt;
-use proxy_steps::OpenFeed;
+use proxy_laws::OpenFeed;
+use proxy_words::ProxyHalt;
+use request_frames::{Due, DueWork, cancel_frame, room_of, send_frame};
 use sandbox_rooms::Room;
 use std::sync::Wait;
 

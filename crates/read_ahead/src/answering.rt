@@ -10,7 +10,7 @@ ghost use Rattle.read_ahead.specs.Working.{ToldBy, Refills, DealsFirst};
 
 use crate::lanes::Hall;
 use lane_bells::Bells;
-use lane_crew::Caller;
+use lane_threads::Caller;
 use message_box::{Mailbox, Stop, Took, take, take_waiting};
 use message_service::{Finish, Service, answer_one};
 use outside::{Shop, Sink};

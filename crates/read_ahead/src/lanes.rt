@@ -14,7 +14,7 @@ use crate::both::{Reads, Works};
 use crate::reading::{Pause, read_all};
 use crate::start::Start;
 use lane_bells::Bells;
-use lane_crew::Caller;
+use lane_threads::Caller;
 use message_box::{Mailbox, await_leave, leave, stop};
 use message_service::{Finish, Service};
 use outside::{Shop, Sink, Tap};

@@ -9,7 +9,7 @@ ghost use Rattle.read_ahead.specs.Reading.{HasRead, HandsOn, BreaksOff};
 
 use crate::lanes::Hall;
 use json_framing::Cutter;
-use lane_crew::Caller;
+use lane_threads::Caller;
 use message_box::{Mailbox, Offered, READER, Stop, await_room, put};
 use message_service::{Service, hear_piece};
 use outside::{PIECE, READS, Shop, Taken, Tap};

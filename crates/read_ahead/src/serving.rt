@@ -11,7 +11,7 @@ use crate::both::{Callers, run_both};
 use crate::lanes::Hall;
 use crate::start::Start;
 use lane_bells::Bells;
-use lane_crew::Caller;
+use lane_threads::Caller;
 use message_box::{Mailbox, READER, TAKER, settle};
 use message_service::{Finish, Service};
 use outside::{Shop, Sink, Tap};

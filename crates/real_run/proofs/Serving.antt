@@ -11,8 +11,8 @@ use Rattle.outside.specs.Told.{BerthTold}
 use Rattle.remote_messages.specs.declared.work.WorkAction.{WorkAction}
 use Rattle.run_plan.specs.declared.plan.Speech.{Speech}
 use Rattle.run_values.specs.declared.settings.Settings.{Settings}
-use Rattle.proxy_deeds.specs.Deeds.{Deed, calls_of, given_to}
-use Rattle.proxy_deeds.specs.Lines.{IsBack, Returned, RoseBy, listed, room_faults, started_in}
+use Rattle.proxy_words.specs.Deeds.{Deed, calls_of, given_to}
+use Rattle.proxy_words.specs.Lines.{IsBack, Returned, RoseBy, listed, room_faults, started_in}
 use Rattle.lane_runs.specs.Runs.{EndTold, Room, Rooms, backs_at}
 use Rattle.worker_run.specs.Lanes.{IsNewBerth}
 use Rattle.real_run.proofs.Each.{each_by, it_is}

@@ -4,9 +4,9 @@ use Rattle.std.specs.Prelude.{IsSome, option_map}
 use Rattle.std.specs.List.{AllByRecursion}
 use Rattle.outside.specs.Told.{LineTold}
 use Rattle.outside_real.specs.Telling.{BerthSeen, ChildSeen, FeedSeen, PlaceSeen, TapSeen, until_a_fault}
-use Rattle.proxy_deeds.specs.Lines.{Returned, listed}
-use Rattle.proxy_steps.specs.Lanes.{back_of}
-use Rattle.proxy_steps.specs.declared.hands.EndedFeed.{EndedFeed}
+use Rattle.proxy_words.specs.Lines.{Returned, listed}
+use Rattle.proxy_laws.specs.Lanes.{back_of}
+use Rattle.proxy_laws.specs.declared.hands.EndedFeed.{EndedFeed}
 use Rattle.lane_runs.specs.Runs.{EndTold, back_in, backs_at, end_of, laid_told, line_at}
 use Rattle.lane_runs.specs.declared.halves.EndedLine.{EndedLine}
 use Rattle.lane_runs.specs.declared.halves.Halves.{Halves}

@@ -4,7 +4,7 @@ use Rattle.std.specs.Prelude.{IsSome}
 use Rattle.build_report.specs.declared.fault.RunFault.{RunFault}
 use Rattle.build_report.specs.declared.fault.RunFault.TheVariants as fault
 use Rattle.build_report.specs.declared.fault.Stage.TheVariants as stage
-use Rattle.core_bench.specs.Objects.{WroteAs, WroteBy}
+use Rattle.core_machine.specs.Objects.{WroteAs, WroteBy}
 use Rattle.core_contract.specs.Moves.{History}
 use Rattle.core_contract.specs.Shelf.{Spot, Fresh, Away, Back, place_at}
 use Rattle.exec_journal.specs.declared.call.CommitEnd.{CommitEnd}

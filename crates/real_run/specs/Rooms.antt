@@ -9,12 +9,12 @@ use Rattle.core_contract.specs.Moves.{History}
 use Rattle.outside.specs.Told.{BerthTold}
 use Rattle.remote_messages.specs.declared.work.WorkAction.{WorkAction}
 use Rattle.run_plan.specs.declared.plan.Speech.{Speech}
-use Rattle.proxy_deeds.specs.declared.halt.ProxyHalt.{ProxyHalt}
+use Rattle.proxy_words.specs.declared.halt.ProxyHalt.{ProxyHalt}
 use Rattle.run_values.specs.declared.settings.Settings.{Settings}
-use Rattle.proxy_deeds.specs.Deeds.{Deed, calls_of, given_to}
-use Rattle.proxy_deeds.specs.Ends.{Ends}
-use Rattle.proxy_deeds.specs.Lines.{Returned, RoseBy, feed_faults, lines_of, listed, room_faults, started_in, unsaid_by}
-use Rattle.proxy_deeds.specs.Told.{AllTold}
+use Rattle.proxy_words.specs.Deeds.{Deed, calls_of, given_to}
+use Rattle.proxy_words.specs.Ends.{Ends}
+use Rattle.proxy_words.specs.Lines.{Returned, RoseBy, feed_faults, lines_of, listed, room_faults, started_in, unsaid_by}
+use Rattle.proxy_words.specs.Told.{AllTold}
 use Rattle.lane_runs.specs.Runs.{EndTold, backs_at}
 use Rattle.lane_runs.specs.Seats.{means_for}
 

@@ -2,7 +2,7 @@
 use Rattle.std.specs.Prelude.{◌≡◌, IfSome, IsSome, Option}
 use Rattle.std.specs.List.{AllByRecursion}
 use Rattle.outside.specs.Told.{BerthTold, ChildTold, FeedTold, LineTold, PlaceTold, TapTold}
-use Rattle.proxy_deeds.specs.Lines.{Returned}
+use Rattle.proxy_words.specs.Lines.{Returned}
 use Rattle.lane_runs.specs.Runs.{EndTold}
 use Rattle.worker_run.specs.Seen.{EndedTold, Left}
 

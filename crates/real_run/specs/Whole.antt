@@ -18,7 +18,7 @@ use Rattle.outside.specs.declared.floor.FloorRead.{FloorRead}
 use Rattle.outside.specs.declared.place.PlaceWrite.{PlaceWrite}
 use Rattle.outside_real.specs.Telling.{SinkSeen}
 use Rattle.output_commit.specs.Commits.{writes_of}
-use Rattle.proxy_deeds.specs.Lines.{started_in}
+use Rattle.proxy_words.specs.Lines.{started_in}
 use Rattle.run_values.specs.declared.settings.Settings.{Settings}
 use Rattle.real_run.specs.Rooms.{AllServed}
 use Rattle.run_plan.specs.declared.plan.Speech.{Speech}

@@ -3,8 +3,8 @@ use Rattle.std.proofs.Common.{◌≡◌, [], sym, subst}
 use Rattle.shared_rules.specs.declared.pools.SharedPlan.{SharedPlan}
 use Rattle.shared_rules.specs.Pools.{SoundPools, seats, usable}
 use Rattle.shared_rules.proofs.Usable.{usable_is}
-use Rattle.shared_tables.specs.Spoken.{IsSpoken, berths_from}
-use Rattle.shared_tables.proofs.Noted.{begins}
+use Rattle.shared_laws.specs.Spoken.{IsSpoken, berths_from}
+use Rattle.shared_laws.proofs.Noted.{begins}
 use Rattle.shared_berths.specs.declared.SharedBerths.{SharedBerths}
 use Rattle.shared_berths.specs.Stands.{StandsBy, shared_by}
 

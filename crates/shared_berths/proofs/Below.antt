@@ -2,7 +2,7 @@
 use Rattle.std.proofs.Common.{◌≡◌, ℕ, zero, suc, ◌+◌, ◌<◌, nat_lt, Bool, true, false, ◌||◌, ◌∷◌, [], ◌++◌, refl, ap, sym, ◌∙◌, arith}
 use Rattle.std.proofs.lemmas.Bool.{ltb-true, ltb-false}
 use Rattle.exec_journal.proofs.Ruled.{by_bool}
-use Rattle.shared_tables.specs.Spoken.{berths_from}
+use Rattle.shared_laws.specs.Spoken.{berths_from}
 
 or_true : (b : Bool) → (b || true) ≡ true
 or_true true = refl

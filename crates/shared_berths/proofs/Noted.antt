@@ -13,9 +13,9 @@ use Rattle.shared_rules.specs.declared.pools.SharedPlan.{SharedPlan}
 use Rattle.shared_rules.specs.Pools.{seats, usable}
 use Rattle.shared_rules.specs.Shared.{shared_discipline}
 use Rattle.shared_rules.proofs.Usable.{usable_is}
-use Rattle.shared_tables.specs.Spoken.{IsSpoken, is_word, moved, noted}
-use Rattle.shared_tables.proofs.Moved.{all_among}
-use Rattle.shared_tables.proofs.Noted.{stays}
+use Rattle.shared_laws.specs.Spoken.{IsSpoken, is_word, moved, noted}
+use Rattle.shared_laws.proofs.Moved.{all_among}
+use Rattle.shared_laws.proofs.Noted.{stays}
 use Rattle.shared_berths.specs.declared.SharedBerths.{SharedBerths}
 use Rattle.shared_berths.specs.Stands.{StandsBy}
 

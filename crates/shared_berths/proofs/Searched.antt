@@ -15,8 +15,8 @@ use Rattle.core_state.specs.declared.state.State.{State}
 use Rattle.shared_rules.specs.declared.pools.SharedPlan.{SharedPlan}
 use Rattle.shared_rules.specs.declared.pools.SharedPool.{SharedPool}
 use Rattle.shared_rules.specs.Pools.{has_group}
-use Rattle.shared_tables.specs.Berths as told
-use Rattle.shared_tables.proofs.Members.{any_member, member_any}
+use Rattle.shared_laws.specs.Berths as told
+use Rattle.shared_laws.proofs.Members.{any_member, member_any}
 use Rattle.shared_berths.specs.Starved.{starved_in}
 
 and_false : (b : Bool) → (b && false) ≡ false

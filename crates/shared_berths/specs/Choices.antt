@@ -18,7 +18,7 @@ use Rattle.earliest_first.specs.Choices.{earliest_of, first_choice}
 use Rattle.shared_rules.specs.declared.pools.SharedPlan.{SharedPlan}
 use Rattle.shared_rules.specs.declared.pools.SharedPool.{SharedPool}
 use Rattle.shared_rules.specs.Pools.{berth_kind, pool_of, seats}
-use Rattle.shared_tables.specs.Berths.{group_at, holds, may_evict, next_starved}
+use Rattle.shared_laws.specs.Berths.{group_at, holds, may_evict, next_starved}
 
 -- ---- what is read
 

@@ -34,7 +34,7 @@ use Rattle.shared_rules.specs.Needs as needs
 use Rattle.shared_rules.specs.Pools.{berth_kind, pool_of, seats}
 use Rattle.shared_rules.specs.Shared as rule
 use Rattle.shared_rules.specs.Shared.{shared_discipline}
-use Rattle.shared_tables.specs.Berths as told
+use Rattle.shared_laws.specs.Berths as told
 use Rattle.shared_berths.specs.Choices as own
 
 -- what the tables say of a berth and of pools is so

@@ -4,7 +4,7 @@ use Rattle.run_plan.specs.declared.plan.Plan.{Plan}
 use Rattle.exec_journal.specs.Entry.{Entry}
 use Rattle.shared_rules.specs.declared.pools.SharedPlan.{SharedPlan}
 use Rattle.shared_rules.specs.Pools.{SoundPools, seats}
-use Rattle.shared_tables.specs.Spoken.{IsSpoken}
+use Rattle.shared_laws.specs.Spoken.{IsSpoken}
 use Rattle.shared_berths.specs.declared.SharedBerths.{SharedBerths}
 
 -- what the policy goes by, where the core's tables are of this plan

@@ -4,7 +4,7 @@ use Rattle.core_state.specs.declared.state.State.{State}
 use Rattle.shared_rules.specs.declared.pools.SharedPlan.{SharedPlan}
 use Rattle.shared_rules.specs.declared.pools.SharedPool.{SharedPool}
 use Rattle.shared_rules.specs.Pools.{has_group}
-use Rattle.shared_tables.specs.Berths.{is_starved}
+use Rattle.shared_laws.specs.Berths.{is_starved}
 use Rattle.shared_berths.specs.declared.SharedBerths.{SharedBerths}
 use Rattle.shared_berths.specs.Choices.{ReadsShared}
 use Rattle.shared_berths.specs.Stands.{shared_by}

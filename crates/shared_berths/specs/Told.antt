@@ -5,10 +5,10 @@ use Rattle.core_state.specs.declared.state.State.{State}
 use Rattle.core_laws.specs.Stands.{Stands}
 use Rattle.shared_rules.specs.declared.pools.SharedPlan.{SharedPlan}
 use Rattle.shared_rules.specs.Pools.{seats}
-use Rattle.shared_tables.specs.Spoken.{IsSpoken}
-use Rattle.shared_tables.proofs.Evictions.{evicted_is_told}
-use Rattle.shared_tables.proofs.Lines.{held_at, vacant_is}
-use Rattle.shared_tables.proofs.NextStarved.{next_is_told}
+use Rattle.shared_laws.specs.Spoken.{IsSpoken}
+use Rattle.shared_laws.proofs.Evictions.{evicted_is_told}
+use Rattle.shared_laws.proofs.Lines.{held_at, vacant_is}
+use Rattle.shared_laws.proofs.NextStarved.{next_is_told}
 use Rattle.shared_berths.specs.Chosen.{AreTold}
 
 pub are_told : (q : SharedPlan) (s : State) (j : List Entry) (spoken : List ℕ) (w : ℕ)

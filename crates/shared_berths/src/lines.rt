@@ -5,7 +5,7 @@ ghost use Rattle.core_state.specs.Choices.{Reads};
 ghost use Rattle.core_state.specs.Machine.{order_at};
 ghost use Rattle.earliest_first.specs.Choices.{has_room};
 ghost use Rattle.shared_berths.specs.Choices.{ReadsBelow};
-ghost use Rattle.shared_tables.specs.Berths.{group_at, holds, is_gathering, is_launching, is_of_group, line_at, line_holds, line_is_killed, line_rests, lines_held, may_go, rests, some_free};
+ghost use Rattle.shared_laws.specs.Berths.{group_at, holds, is_gathering, is_launching, is_of_group, line_at, line_holds, line_is_killed, line_rests, lines_held, may_go, rests, some_free};
 
 use core_state::State;
 use core_tables::Owed;

@@ -1,7 +1,7 @@
 // The order of the berths' last messages: berths that were silent for longer come first.
 ghost use Rattle.std.specs.Prelude.{◌≡◌, ◌==◌, ◌≤◌, true, IfOk};
 ghost use Rattle.std.specs.List.{list_any};
-ghost use Rattle.shared_tables.specs.Spoken.{berths_from, is_before, is_word, moved};
+ghost use Rattle.shared_laws.specs.Spoken.{berths_from, is_before, is_word, moved};
 
 use arrayvec::ArrayVec;
 use exec_journal::Call;

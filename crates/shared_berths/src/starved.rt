@@ -8,7 +8,7 @@ ghost use Rattle.shared_rules.specs.Pools.{pool_at, pool_of, same_pool, seats};
 ghost use Rattle.shared_berths.specs.Choices.{ReadsShared};
 ghost use Rattle.shared_berths.specs.Stands.{shared_by};
 ghost use Rattle.shared_berths.specs.Starved.{MayAsk, starved_in};
-ghost use Rattle.shared_tables.specs.Berths.{goes_before, holds, is_starved, may_evict, next_starved, some_before, some_vacant, starved_from};
+ghost use Rattle.shared_laws.specs.Berths.{goes_before, holds, is_starved, may_evict, next_starved, some_before, some_vacant, starved_from};
 
 use crate::SharedBerths;
 use crate::lines::{holds, is_killed, lines_held, may_go, some_free};

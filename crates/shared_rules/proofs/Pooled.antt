@@ -15,7 +15,7 @@ use Rattle.journal_laws.proofs.Claims.{clash, false_by}
 use Rattle.journal_laws.proofs.Requests as q
 use Rattle.core_contract.specs.Disciplines.{LegalBy}
 use Rattle.core_contract.specs.Laws.{OrderFits, RunsOn}
-use Rattle.history_laws.proofs.Seating.{IsOnLine, order_fits}
+use Rattle.discipline_laws.proofs.Seating.{IsOnLine, order_fits}
 use Rattle.shared_rules.specs.declared.pools.SharedPlan.{SharedPlan}
 use Rattle.shared_rules.specs.declared.pools.SharedPool.{SharedPool}
 use Rattle.shared_rules.specs.Pools as po

@@ -6,7 +6,7 @@ use Rattle.exec_journal.specs.Entry.{Entry}
 use Rattle.exec_journal.specs.Lawful.{plain_reply}
 use Rattle.core_contract.specs.Disciplines.{IsDiscipline, is_plain}
 use Rattle.core_contract.specs.Laws.{fits}
-use Rattle.history_laws.proofs.Fitting.{plain_fits, told_fits}
+use Rattle.discipline_laws.proofs.Fitting.{plain_fits, told_fits}
 use Rattle.shared_rules.specs.declared.pools.SharedPlan.{SharedPlan}
 use Rattle.shared_rules.specs.Pools.{pools_fit}
 use Rattle.shared_rules.specs.Shared.{shared_discipline, shared_rule}

@@ -4,7 +4,7 @@
 
 use outside_real::{RealFloor, RealSink, open_standard, tell_about};
 use real_shared::run_told_shared;
-use run_command::{Prints, Program, end_unread, tell_ended, words};
+use run_console::{Prints, Program, end_unread, tell_ended, words};
 use shared_tasks::other_words;
 use std::process::ExitCode;
 

@@ -11,7 +11,7 @@ use Rattle.core_contract.specs.Discipline.{Discipline}
 use Rattle.core_state.specs.declared.state.State.{State}
 use Rattle.core_laws.specs.Stands as tables
 use Rattle.core_tables.specs.Slots.{Facts}
-use Rattle.history_laws.proofs.Counting.{counted, owes_most, uncounted}
+use Rattle.discipline_laws.proofs.Counting.{counted, owes_most, uncounted}
 use Rattle.spawn_core.specs.Stands.{HasHistory, KeptBy, StandsIn, TablesStand}
 
 -- what a lane owes by these tables

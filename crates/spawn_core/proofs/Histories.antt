@@ -11,8 +11,8 @@ use Rattle.exec_journal.specs.Legal.{Legal, after}
 use Rattle.seat_desk.specs.History as history
 use Rattle.seat_desk.specs.History.{entry}
 use Rattle.core_contract.specs.Moves.{History}
-use Rattle.history_laws.proofs.Growing.{journal_after}
-use Rattle.history_laws.proofs.OwnDiscipline.{own_legal}
+use Rattle.discipline_laws.proofs.Growing.{journal_after}
+use Rattle.discipline_laws.proofs.OwnDiscipline.{own_legal}
 use Rattle.spawn_core.specs.Histories.{StandsFor, basis_of}
 use Rattle.spawn_core.specs.Stands.{Kept, KeptBy, Stands, StandsIn}
 

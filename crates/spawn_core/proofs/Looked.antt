@@ -26,7 +26,7 @@ use Rattle.exec_journal.specs.Rules.{gathered}
 use Rattle.exec_journal.proofs.Ruled.{by_bool}
 use Rattle.core_contract.specs.Disciplines.{IsDiscipline, script_of}
 use Rattle.core_contract.specs.Discipline.{Discipline}
-use Rattle.history_laws.proofs.Fitting.{lawful}
+use Rattle.discipline_laws.proofs.Fitting.{lawful}
 use Rattle.core_tables.specs.declared.lanes.LaneState.{LaneState}
 use Rattle.core_tables.specs.declared.lanes.Owed.{Owed}
 use Rattle.core_tables.specs.declared.lanes.Owed.TheVariants as order

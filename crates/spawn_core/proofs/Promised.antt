@@ -10,7 +10,7 @@ use Rattle.exec_journal.specs.Lawful.{Told}
 use Rattle.exec_journal.specs.Words.{halted}
 use Rattle.core_contract.specs.Disciplines.{IsDiscipline, LegalBy, script_of}
 use Rattle.core_contract.specs.Discipline.{Discipline}
-use Rattle.history_laws.proofs.Fitting.{lawful}
+use Rattle.discipline_laws.proofs.Fitting.{lawful}
 use Rattle.journal_laws.specs.Finished.{Finished}
 use Rattle.journal_laws.proofs.Cleaned.{complete}
 use Rattle.journal_laws.proofs.Finishing.{finished, stop_finishes}

@@ -11,7 +11,7 @@ use Rattle.exec_journal.specs.Entries.{is_kept, is_look}
 use Rattle.exec_journal.specs.Legal.{after}
 use Rattle.core_contract.specs.Disciplines.{LegalBy, LegalEntryBy, script_of}
 use Rattle.core_contract.specs.Discipline.{Discipline}
-use Rattle.history_laws.proofs.Fitting.{entry_lawful}
+use Rattle.discipline_laws.proofs.Fitting.{entry_lawful}
 use Rattle.core_tables.specs.declared.berth_group.BerthGroup.{BerthGroup}
 use Rattle.core_tables.specs.Lanes.{allows_by}
 use Rattle.core_state.specs.declared.state.State.{State}

@@ -16,8 +16,8 @@ use Rattle.exec_journal.specs.Words.{last_work, stopped, has_halted}
 use Rattle.exec_journal.proofs.Ruled.{by_bool}
 use Rattle.core_contract.specs.Disciplines.{berth_script, script_of}
 use Rattle.core_contract.specs.Discipline.{Discipline}
-use Rattle.history_laws.proofs.Fitting.{scripted_as}
-use Rattle.history_laws.proofs.Ticking.{known}
+use Rattle.discipline_laws.proofs.Fitting.{scripted_as}
+use Rattle.discipline_laws.proofs.Ticking.{known}
 use Rattle.core_tables.specs.declared.berth_group.BerthGroup.{BerthGroup}
 use Rattle.core_tables.specs.Lanes.{allows_by}
 use Rattle.core_state.specs.declared.state.State.{State}

@@ -16,7 +16,7 @@ use Rattle.core_contract.specs.Disciplines.{IsDiscipline, LegalBy, own_disciplin
 use Rattle.core_laws.specs.Stands.{Stands}
 use Rattle.core_laws.proofs.AllOf.{all_of}
 use Rattle.core_laws.proofs.Read as read
-use Rattle.history_laws.proofs.OwnDiscipline.{own_is_discipline, own_legal}
+use Rattle.discipline_laws.proofs.OwnDiscipline.{own_is_discipline, own_legal}
 use Rattle.earliest_first.specs.Choices.{ReadsOwn, chosen}
 use Rattle.earliest_first.proofs.AtBerths.{seat_fits}
 use Rattle.earliest_first.proofs.Chosen.{choice_is}

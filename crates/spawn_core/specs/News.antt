@@ -20,7 +20,7 @@ use Rattle.core_contract.specs.Discipline.{Discipline}
 use Rattle.core_contract.specs.Ruled.{journal_of}
 use Rattle.core_contract.specs.Moves.{History}
 use Rattle.core_contract.specs.News.{question, HasNews, SaysNews}
-use Rattle.history_laws.proofs.Fitting.{in_script}
+use Rattle.discipline_laws.proofs.Fitting.{in_script}
 use Rattle.spawn_core.specs.Allowed.{allowed_is, lane_within, none_scripted}
 use Rattle.spawn_core.specs.Outlook.{has_news, has_news_at, has_news_by, is_idle, told_by}
 use Rattle.spawn_core.specs.Policies.{Serves}

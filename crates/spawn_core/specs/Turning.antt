@@ -10,7 +10,7 @@ use Rattle.exec_journal.specs.Lawful.{Asked, Ticked}
 use Rattle.table_laws.specs.Moments.{LawfulMore}
 use Rattle.core_contract.specs.Disciplines.{IsDiscipline, LegalBy, script_of}
 use Rattle.core_contract.specs.Discipline.{Discipline}
-use Rattle.history_laws.proofs.Fitting.{anywhere}
+use Rattle.discipline_laws.proofs.Fitting.{anywhere}
 use Rattle.core_tables.specs.declared.berth_group.BerthGroup.{BerthGroup}
 use Rattle.core_state.specs.declared.state.State.{State}
 use Rattle.core_state.specs.Machine.{carried_reply}

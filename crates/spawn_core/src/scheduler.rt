@@ -8,7 +8,7 @@ ghost use Rattle.exec_journal.specs.Legal.{after};
 ghost use Rattle.exec_journal.specs.Words.{halted};
 ghost use Rattle.journal_laws.specs.Finished.{Finished};
 ghost use Rattle.core_contract.specs.Ruled.{journal_of};
-ghost use Rattle.history_laws.proofs.OfRules as laws;
+ghost use Rattle.discipline_laws.proofs.OfRules as laws;
 ghost use Rattle.spawn_core.specs.Answers.{Replies, answer_by};
 ghost use Rattle.spawn_core.specs.Histories.{basis_of};
 ghost use Rattle.spawn_core.specs.Laws as own_laws;

@@ -4,7 +4,7 @@
 
 use outside_real::{RealFloor, RealSink, open_standard, tell_about};
 use real_spawn::run_told_strategies;
-use run_command::{Prints, Program, end_unread, tell_ended, words};
+use run_console::{Prints, Program, end_unread, tell_ended, words};
 use spawn_runs::Strategic;
 use spawn_tasks::other_words;
 use std::alloc::Global;

@@ -20,10 +20,10 @@ use Rattle.core_contract.specs.Ruled.{answer_after}
 use Rattle.core_contract.specs.Discipline.{Discipline}
 use Rattle.core_contract.specs.Moves.{Past, History, proxy_move, tap_move}
 use Rattle.core_contract.specs.Laws.{is_short, says_file, fits, Fits, InScript, tap_lane, Hearing, Free, Hears, Over, hearing_then, hearing_of, may_hear}
-use Rattle.core_bench.specs.declared.shelf.Good.{Good}
-use Rattle.core_bench.specs.declared.shelf.Good.TheVariants as good
-use Rattle.core_bench.specs.Bench.{IsTap, IsTapOf, Comes, ComesOut}
-use Rattle.core_bench.specs.BenchLaws.{calls_stay}
+use Rattle.core_machine.specs.declared.shelf.Good.{Good}
+use Rattle.core_machine.specs.declared.shelf.Good.TheVariants as good
+use Rattle.core_machine.specs.Bench.{IsTap, IsTapOf, Comes, ComesOut}
+use Rattle.core_machine.specs.BenchLaws.{calls_stay}
 use Rattle.tap_lane.specs.Heard.{IsTapLane, IsAnswer}
 use Rattle.tap_lane.specs.Taking.{tap_good}
 use Rattle.tap_lane.proofs.Replies.{answer_leads, is_noted, noted_no_file}

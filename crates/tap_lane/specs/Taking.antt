@@ -5,8 +5,8 @@ use Rattle.exec_journal.specs.declared.call.Call.TheVariants as call
 use Rattle.exec_journal.specs.declared.reply.Reply.TheVariants as reply
 use Rattle.core_contract.specs.Moves.{History}
 use Rattle.core_contract.specs.Laws.{hearing_of, Hears}
-use Rattle.core_bench.specs.declared.shelf.Good.{Good}
-use Rattle.core_bench.specs.declared.shelf.Good.TheVariants as good
+use Rattle.core_machine.specs.declared.shelf.Good.{Good}
+use Rattle.core_machine.specs.declared.shelf.Good.TheVariants as good
 use Rattle.tap_lane.specs.declared.calls.Took.{Took}
 use Rattle.tap_lane.specs.declared.calls.Took.TheVariants as took
 

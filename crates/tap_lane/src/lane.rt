@@ -7,9 +7,9 @@ ghost use Rattle.tap_lane.specs.Working.{IsAt, IsSameLane, own, number};
 
 use crate::calls::Took;
 use crate::ends::{EndedTap, TapHalt, TapLeft};
-use core_bench::Bench;
 use core_contract::Rules;
-use lane_crew::Caller;
+use core_machine::Bench;
+use lane_threads::Caller;
 use outside::{Berth, Place};
 use plain_values::NoMemory;
 use run_plan::Speech;

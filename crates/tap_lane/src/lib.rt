@@ -11,4 +11,4 @@ mod lane;
 mod seat;
 
 pub use ends::{EndedTap, TapHalt, TapLeft};
-pub use seat::TapSeat;
+pub use seat::TapStart;

@@ -1,17 +1,17 @@
 //! The tap lane of a berth, as a lane of a crew.
 ghost use Rattle.std.specs.Prelude.{◌≡◌, ◌<◌, map};
 ghost use Rattle.seat_desk.specs.Passes.{IsPassOf, IsSamePass, mine, basis};
-ghost use Rattle.lane_crew.specs.Lanes.{IsFresh};
+ghost use Rattle.lane_threads.specs.Lanes.{IsFresh};
 ghost use Rattle.core_contract.specs.Laws.{tap_lane};
 ghost use Rattle.tap_lane.specs.Heard.{back_by};
 ghost use Rattle.tap_lane.specs.Lane.{LaneEnds};
 
 use crate::ends::TapLeft;
 use crate::lane::TapLane;
-use core_bench::Bench;
 use core_contract::Rules;
+use core_machine::Bench;
 use lane_bells::Bells;
-use lane_crew::{Caller, Lane};
+use lane_threads::{Caller, Lane};
 use outside::{Berth, Place};
 use run_plan::Speech;
 use seat_desk::{Desk, Pass};
@@ -25,7 +25,7 @@ use std::thread::Threads;
 /// runs out, it halts. It gives its pass back. For each line, the pass's calls are its Take, the
 /// answers that the bytes of its tap spell in this protocol, in order, and its Ended.
 #[derive(Drop)]
-pub struct TapSeat {
+pub struct TapStart {
     pub alloc: Global,
     /// The number of its berth.
     pub berth: u32,
@@ -33,7 +33,7 @@ pub struct TapSeat {
     pub speech: Speech,
 }
 
-impl<B: Berth, P: Place, C: Rules> Lane<Desk<Bench<B, P, C>>, Pass<Bench<B, P, C>>> for TapSeat {
+impl<B: Berth, P: Place, C: Rules> Lane<Desk<Bench<B, P, C>>, Pass<Bench<B, P, C>>> for TapStart {
     type End = TapLeft<B::Tap>;
 
     ghost may_run = { λ self desk bells pass. IsPassOf desk pass × IsFresh pass
@@ -51,7 +51,7 @@ impl<B: Berth, P: Place, C: Rules> Lane<Desk<Bench<B, P, C>>, Pass<Bench<B, P, C
         bells: &Bells,
         pass: Pass<Bench<B, P, C>>,
     ) -> (TapLeft<B::Tap>, Pass<Bench<B, P, C>>) {
-        let TapSeat {
+        let TapStart {
             alloc,
             berth,
             speech,

@@ -7,10 +7,10 @@ ghost use Rattle.proxy_calls.specs.Calls.{MakesNone, MakesOne};
 ghost use Rattle.exec_journal.specs.Idle.{is_idle, idle_not_kept};
 ghost use Rattle.tick_lane.specs.Ticks.{IsTicker, reply_of};
 
-use core_bench::Bench;
 use core_contract::Rules;
+use core_machine::Bench;
 use exec_journal::{Call, Reply};
-use lane_crew::{Caller, Question};
+use lane_threads::{Caller, Question};
 use outside::{Berth, Place};
 use plain_values::NoMemory;
 use std::sync::Wait;

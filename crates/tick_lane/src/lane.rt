@@ -8,9 +8,9 @@ ghost use Rattle.tick_lane.specs.Ticks.{IsTicker, HasTicked};
 
 use crate::calls::{Ticked, make_tick};
 use crate::pacer::Pacer;
-use core_bench::Bench;
 use core_contract::Rules;
-use lane_crew::Caller;
+use core_machine::Bench;
+use lane_threads::Caller;
 use outside::{Berth, Place};
 use plain_values::NoMemory;
 use std::sync::Wait;

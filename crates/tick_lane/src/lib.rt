@@ -13,4 +13,4 @@ mod seat;
 
 pub use clock::ClockPacer;
 pub use pacer::{EagerPacer, Pacer};
-pub use seat::{TickEnd, TickLeft, TickSeat};
+pub use seat::{TickEnd, TickLeft, TickStart};

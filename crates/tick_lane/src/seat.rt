@@ -1,15 +1,15 @@
 //! The lane that makes Ticks, as a lane of a crew.
 ghost use Rattle.std.specs.Prelude.{◌≡◌, ◌<◌};
 ghost use Rattle.seat_desk.specs.Passes.{IsPassOf, IsSamePass, mine};
-ghost use Rattle.lane_crew.specs.Lanes.{IsFresh};
+ghost use Rattle.lane_threads.specs.Lanes.{IsFresh};
 ghost use Rattle.tick_lane.specs.Ticks.{IsTicker, LaneTicks};
 
 use crate::lane::tick_on;
 use crate::pacer::Pacer;
-use core_bench::Bench;
 use core_contract::Rules;
+use core_machine::Bench;
 use lane_bells::Bells;
-use lane_crew::{Caller, Lane};
+use lane_threads::{Caller, Lane};
 use outside::{Berth, Place};
 use plain_values::NoMemory;
 use proxy_calls::halt;
@@ -23,7 +23,7 @@ use std::thread::Threads;
 /// pass back. The pass's calls are the noted Ticks, for each of which its pacer waited for a tick,
 /// and then its last call. The last call is a Tick with the reply Stop, or the lane's Halt.
 #[derive(Drop)]
-pub struct TickSeat<W> {
+pub struct TickStart<W> {
     /// The number of its berth. The lane is the berth's proxy lane.
     pub berth: u32,
     pub pacer: W,
@@ -48,7 +48,7 @@ pub struct TickLeft<W> {
 }
 
 impl<W: Pacer, B: Berth, P: Place, C: Rules> Lane<Desk<Bench<B, P, C>>, Pass<Bench<B, P, C>>>
-    for TickSeat<W> {
+    for TickStart<W> {
     type End = TickLeft<W>;
 
     ghost may_run = { λ self desk bells pass. IsPassOf desk pass × IsFresh pass
@@ -64,7 +64,7 @@ impl<W: Pacer, B: Berth, P: Place, C: Rules> Lane<Desk<Bench<B, P, C>>, Pass<Ben
         bells: &Bells,
         pass: Pass<Bench<B, P, C>>,
     ) -> (TickLeft<W>, Pass<Bench<B, P, C>>) {
-        let TickSeat { berth, mut pacer } = self;
+        let TickStart { berth, mut pacer } = self;
         let mut caller = Caller::new(desk, bells, pass);
         let end = match tick_on(rt, &mut caller, berth, &mut pacer) {
             Ok(()) => TickEnd::Stopped,

@@ -8,11 +8,11 @@ use Rattle.seat_desk.specs.declared.desk.Desk.{Desk}
 use Rattle.seat_desk.specs.History.{StartsWith, calls_by}
 use Rattle.seat_desk.specs.Passes.{IsPassOf, IsSamePass, mine, seen}
 use Rattle.seat_desk.proofs.Calls.{others_only}
-use Rattle.lane_crew.specs.declared.pair.Either.{Either}
-use Rattle.lane_crew.specs.declared.pair.Either.TheVariants.{First, Second}
-use Rattle.lane_crew.specs.Lanes.{IsFresh, FactBefore, FactOfRun}
-use Rattle.lane_crew.specs.Pairs.{MayRunOfKind, HasRunOfKind}
-use Rattle.lane_crew.specs.LaneJobs.{MayRunInOrder, KeepsPasses, EachLane, LaneEnds}
+use Rattle.lane_threads.specs.declared.pair.Either.{Either}
+use Rattle.lane_threads.specs.declared.pair.Either.TheVariants.{First, Second}
+use Rattle.lane_threads.specs.Lanes.{IsFresh, FactBefore, FactOfRun}
+use Rattle.lane_threads.specs.Pairs.{MayRunOfKind, HasRunOfKind}
+use Rattle.lane_threads.specs.LaneJobs.{MayRunInOrder, KeepsPasses, EachLane, LaneEnds}
 use Rattle.work_queue.specs.declared.queue.Ask.{Ask}
 use Rattle.work_queue.specs.declared.queue.Told.{Told}
 use Rattle.work_queue.specs.States.{begun_by, read_in}

@@ -7,8 +7,8 @@ use Rattle.outside.specs.Lists.{Tells, IsFrontAdded}
 use Rattle.outside.specs.Told.{TapTold, SinkTold}
 use Rattle.json_framing.specs.Cutter.{form_of}
 use Rattle.json_framing.specs.declared.cutter.Framing.{Framing}
-use Rattle.lane_crew.specs.declared.pair.Either.{Either}
-use Rattle.lane_crew.specs.declared.pair.Either.TheVariants.{First, Second}
+use Rattle.lane_threads.specs.declared.pair.Either.{Either}
+use Rattle.lane_threads.specs.declared.pair.Either.TheVariants.{First, Second}
 use Rattle.message_service.specs.declared.finish.Finish.TheVariants as finish
 use Rattle.message_service.specs.Ends.{PutAll}
 use Rattle.message_service.proofs.Made.{adds_nothing}

@@ -10,11 +10,11 @@ use Rattle.seat_desk.specs.Turns.{NoneFrom}
 use Rattle.seat_desk.specs.Passes.{IsSamePass}
 use Rattle.json_framing.specs.Cutter.{form_of}
 use Rattle.json_framing.specs.declared.cutter.Framing.{Framing}
-use Rattle.lane_crew.specs.declared.pair.Either.{Either}
-use Rattle.lane_crew.specs.declared.pair.Either.TheVariants.{First, Second}
-use Rattle.lane_crew.specs.Lanes.{FactOfRun}
-use Rattle.lane_crew.specs.Pairs.{HasRunOfKind}
-use Rattle.lane_crew.specs.LaneJobs.{EachLane}
+use Rattle.lane_threads.specs.declared.pair.Either.{Either}
+use Rattle.lane_threads.specs.declared.pair.Either.TheVariants.{First, Second}
+use Rattle.lane_threads.specs.Lanes.{FactOfRun}
+use Rattle.lane_threads.specs.Pairs.{HasRunOfKind}
+use Rattle.lane_threads.specs.LaneJobs.{EachLane}
 use Rattle.work_queue.specs.declared.queue.Ask.{Ask}
 use Rattle.work_queue.specs.declared.queue.Told.{Told}
 use Rattle.work_queue.specs.declared.queue.How.{How}

@@ -1,7 +1,7 @@
 -- The lanes, and how all is over.
 use Rattle.std.specs.Prelude.{◌≡◌, ℕ, ◌+◌, List, [], ◌∷◌}
-use Rattle.lane_crew.specs.declared.pair.Either.{Either}
-use Rattle.lane_crew.specs.declared.pair.Either.TheVariants.{First, Second}
+use Rattle.lane_threads.specs.declared.pair.Either.{Either}
+use Rattle.lane_threads.specs.declared.pair.Either.TheVariants.{First, Second}
 use Rattle.message_service.specs.declared.finish.Finish.{Finish}
 use Rattle.message_service.specs.declared.finish.Finish.TheVariants as finish
 use Rattle.work_queue.specs.declared.queue.How.{How}

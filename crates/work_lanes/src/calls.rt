@@ -7,7 +7,7 @@ ghost use Rattle.work_queue.specs.declared.queue.Load.TheVariants as load;
 ghost use Rattle.work_queue.specs.States.{reader};
 ghost use Rattle.work_lanes.specs.Calls.{state_at, heard_at, read_at, most_at, begun_at, owner_at, raised_at, is_idle, is_open, done_by, idle_not_kept, InHand, GivesNone, HasRoom, HearsMore, HasHeard, HasTaken, HasBegun};
 
-use lane_crew::{Caller, Question};
+use lane_threads::{Caller, Question};
 use outside::Sink;
 use plain_values::NoMemory;
 use std::snapshot::Snapshot;

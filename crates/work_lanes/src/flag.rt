@@ -4,7 +4,7 @@ ghost use Rattle.work_queue.specs.declared.queue.Start.{Start};
 ghost use Rattle.work_lanes.specs.Calls.{Owner, owner_at, raised_at};
 
 use crate::calls::is_cancelled;
-use lane_crew::Caller;
+use lane_threads::Caller;
 use outside::Sink;
 use plain_values::NoMemory;
 use seat_desk::Machine;

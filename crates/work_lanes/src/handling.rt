@@ -1,7 +1,7 @@
 // A lane that answers requests.
 ghost use Rattle.std.specs.Prelude.{◌≡◌, ◌<◌, [], true, false, IfOk, OnOk, OnErr};
 ghost use Rattle.seat_desk.specs.Passes.{IsPassOf, IsSamePass};
-ghost use Rattle.lane_crew.specs.Lanes.{IsFresh};
+ghost use Rattle.lane_threads.specs.Lanes.{IsFresh};
 ghost use Rattle.work_queue.specs.States.{reader};
 ghost use Rattle.work_lanes.specs.Calls.{state_at, begun_at, InHand};
 ghost use Rattle.work_lanes.specs.Handles.{AnswersOne, AnswersUnless, DidOne, DidUnless, Follows};
@@ -10,7 +10,7 @@ use crate::answerer::{Answerer, Made};
 use crate::calls::{answer, halt, take};
 use crate::flag::LaneFlag;
 use lane_bells::Bells;
-use lane_crew::{Caller, Lane};
+use lane_threads::{Caller, Lane};
 use outside::Sink;
 use plain_values::NoMemory;
 use seat_desk::{Desk, Pass};

@@ -2,7 +2,7 @@
 ghost use Rattle.std.specs.Prelude.{◌≡◌, ◌<◌, ◌≤◌, ◌+◌, ◌++◌, [], List, ℕ, max, IfOk, IfErr};
 ghost use Rattle.seat_desk.specs.Passes.{IsPassOf, IsSamePass};
 ghost use Rattle.json_framing.specs.Cutter.{form_of, framing_of, held};
-ghost use Rattle.lane_crew.specs.Lanes.{IsFresh};
+ghost use Rattle.lane_threads.specs.Lanes.{IsFresh};
 ghost use Rattle.message_service.specs.Stream.{Heard};
 ghost use Rattle.work_queue.specs.States.{reader};
 ghost use Rattle.work_lanes.specs.Calls.{heard_at, read_at, most_at, HearsMore};
@@ -14,7 +14,7 @@ use crate::calls::{await_room, close, halt_reading, hear};
 use delimited_framing::Next;
 use json_framing::Cutter;
 use lane_bells::Bells;
-use lane_crew::{Caller, Lane};
+use lane_threads::{Caller, Lane};
 use message_service::Finish;
 use outside::{PIECE, READS, Sink, Taken, Tap};
 use plain_values::NoMemory;

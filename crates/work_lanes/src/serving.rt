@@ -1,7 +1,7 @@
 // From the start of the input to its end.
 ghost use Rattle.std.specs.Prelude.{◌≡◌, ◌∷◌, ◌≤◌, ◌+◌, [], length, vec_capacity, IfOk, IfErr};
 ghost use Rattle.json_framing.specs.Cutter.{form_of};
-ghost use Rattle.lane_crew.specs.declared.pair.Either.TheVariants.{First};
+ghost use Rattle.lane_threads.specs.declared.pair.Either.TheVariants.{First};
 ghost use Rattle.message_service.specs.Ends.{PutAll};
 ghost use Rattle.work_lanes.specs.Serves.{AreHandlers, IsDepth, ServesBy, told_by};
 ghost use Rattle.work_lanes.specs.Crews.{AreLanes, HasReaderFirst, finish_by, handlers_in};
@@ -10,7 +10,7 @@ use crate::answerer::Answerer;
 use crate::handling::Hands;
 use crate::reading::{Reader, ReaderLeft};
 use crate::unbegun::{Unbegun, unbegun_of};
-use lane_crew::{Crew, Either, run_crew};
+use lane_threads::{Crew, Either, run_crew};
 use message_service::Finish;
 use outside::{Sink, Tap};
 use plain_values::NoMemory;

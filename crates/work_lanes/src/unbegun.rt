@@ -1,12 +1,12 @@
 // What lanes were given that have not begun.
 ghost use Rattle.std.specs.Prelude.{◌≡◌, ◌∷◌, ◌≤◌, ◌+◌, ℕ, List, [], length, vec_capacity};
-ghost use Rattle.lane_crew.specs.declared.pair.Either.TheVariants.{First};
+ghost use Rattle.lane_threads.specs.declared.pair.Either.TheVariants.{First};
 ghost use Rattle.work_lanes.specs.Crews.{AreLanes, HasReaderLane, handlers_held};
 
 use crate::handling::Hands;
 use crate::reading::Reader;
 use crate::serving::{Streams, WorkLane};
-use lane_crew::{Either, Unstarted};
+use lane_threads::{Either, Unstarted};
 use outside::Sink;
 use std::collections::VecDeque;
 use work_queue::{Kind, WorkQueue};

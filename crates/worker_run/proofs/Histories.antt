@@ -9,7 +9,7 @@ use Rattle.exec_journal.specs.Words.{halted, stopped}
 use Rattle.lane_runs.specs.Layout.{has_halt}
 use Rattle.lane_runs.specs.Runs.{IsStopped}
 use Rattle.core_contract.specs.Moves.{Past, History}
-use Rattle.history_laws.proofs.Going.{flip}
+use Rattle.discipline_laws.proofs.Going.{flip}
 use Rattle.core_contract.specs.Ruled.{journal_of}
 use Rattle.seat_desk.specs.History.{calls_by}
 

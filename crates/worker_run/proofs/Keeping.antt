@@ -9,7 +9,7 @@ use Rattle.core_contract.specs.Disciplines.{own_discipline}
 use Rattle.exec_journal.specs.Kept.{Kept}
 use Rattle.run_plan.specs.declared.plan.Plan.{Plan}
 use Rattle.exec_journal.specs.Entry.{Entry}
-use Rattle.history_laws.proofs.OwnDiscipline.{own_legal}
+use Rattle.discipline_laws.proofs.OwnDiscipline.{own_legal}
 use Rattle.outside.specs.Causes.{Counts}
 use Rattle.outside.specs.Told.{FloorTold, SameFloor}
 use Rattle.run_loading.specs.Reads.{IsFloorFailed}

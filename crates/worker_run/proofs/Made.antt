@@ -7,13 +7,13 @@ use Rattle.exec_journal.specs.declared.call.Call.{Call}
 use Rattle.exec_journal.specs.declared.reply.Reply.{Reply}
 use Rattle.run_plan.specs.declared.plan.Speech.{Speech}
 use Rattle.run_values.specs.declared.settings.Settings.{Settings}
-use Rattle.proxy_deeds.specs.Lines.{Returned}
+use Rattle.proxy_words.specs.Lines.{Returned}
 use Rattle.lane_runs.specs.Runs.{EndTold, HasRun, Rooms}
 use Rattle.outside.specs.Told.{BerthTold, FloorTold, Makes, PlaceTold, SameFloor}
 use Rattle.remote_messages.specs.declared.work.WorkAction.{WorkAction}
 use Rattle.core_contract.specs.Discipline.{Discipline}
 use Rattle.core_contract.specs.Moves.{History}
-use Rattle.core_bench.specs.Objects.{AreFresh}
+use Rattle.core_machine.specs.Objects.{AreFresh}
 use Rattle.worker_run.proofs.Numbered.{new_berths, new_places}
 use Rattle.worker_run.specs.Lanes.{AreNewBerths, HasMade, IsUnused, LanesRan, MakesUpTo, WhereLost, WhereWhole, is_during}
 use Rattle.worker_run.specs.Seen.{Left, nothing_left, stage_of, unrun}

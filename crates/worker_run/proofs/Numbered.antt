@@ -5,7 +5,7 @@ use Rattle.std.proofs.lemmas.List.{length-append, map-append}
 use Rattle.std.proofs.lemmas.Option.{slice_get-map}
 use Rattle.outside.specs.Lists.{Tells}
 use Rattle.outside.specs.Told.{BerthTold, PlaceTold}
-use Rattle.core_bench.specs.Objects.{AreFresh}
+use Rattle.core_machine.specs.Objects.{AreFresh}
 use Rattle.worker_run.specs.Lanes.{AreNewBerths, AreNewPlaces, IsNewBerth, IsNewPlace}
 
 -- what stands in a list with one more is one of the old, or the new one

@@ -20,7 +20,7 @@ use Rattle.core_contract.specs.Disciplines.{IsDiscipline, LegalBy}
 use Rattle.core_contract.specs.Moves.{History}
 use Rattle.journal_laws.proofs.Cleaned.{all_succeed}
 use Rattle.journal_laws.proofs.Known.{outcome_known, stopped_settled}
-use Rattle.history_laws.proofs.Fitting.{lawful}
+use Rattle.discipline_laws.proofs.Fitting.{lawful}
 use Rattle.journal_laws.proofs.Races.{race}
 use Rattle.journal_laws.proofs.Requests.{paired}
 use Rattle.journal_laws.proofs.Stops.{each_settled, settled_accounted}

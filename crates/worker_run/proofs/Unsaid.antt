@@ -4,13 +4,13 @@ use Rattle.std.proofs.lemmas.List.Elements.{All-head}
 use Rattle.lane_laws.proofs.Halting.{ends_tell}
 use Rattle.exec_journal.specs.declared.call.Call.{Call}
 use Rattle.exec_journal.specs.declared.reply.Reply.{Reply}
-use Rattle.proxy_deeds.specs.declared.halt.ProxyHalt.{ProxyHalt}
+use Rattle.proxy_words.specs.declared.halt.ProxyHalt.{ProxyHalt}
 use Rattle.run_plan.specs.declared.plan.Speech.{Speech}
 use Rattle.run_values.specs.declared.settings.Settings.{Settings}
-use Rattle.proxy_deeds.specs.Lines.{Returned, IsBack, started_in}
+use Rattle.proxy_words.specs.Lines.{Returned, IsBack, started_in}
 use Rattle.lane_runs.specs.Seats.{means_for}
 use Rattle.lane_runs.specs.Runs.{EndTold, Rooms, backs_at}
-use Rattle.proxy_steps.specs.Steps.{Ended}
+use Rattle.proxy_laws.specs.Steps.{Ended}
 use Rattle.outside.specs.Told.{BerthTold}
 use Rattle.remote_messages.specs.declared.work.WorkAction.{WorkAction}
 use Rattle.core_contract.specs.Duties.{proxy_lane}

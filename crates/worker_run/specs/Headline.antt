@@ -15,7 +15,7 @@ use Rattle.core_contract.specs.Disciplines.{LegalBy, own_discipline}
 use Rattle.core_contract.specs.Ruled.{answer_after}
 use Rattle.journal_laws.specs.Finished.{Finished}
 use Rattle.run_values.specs.declared.settings.Settings.{Settings}
-use Rattle.proxy_deeds.specs.Lines.{Returned, IsKilled}
+use Rattle.proxy_words.specs.Lines.{Returned, IsKilled}
 use Rattle.lane_runs.specs.Layout.{has_halt}
 use Rattle.lane_runs.specs.Runs.{Outs, Pipes, Rooms, Stops}
 use Rattle.outside.specs.Causes.{Counts}

@@ -1,7 +1,7 @@
 // A place for each action, and a berth for each speech.
 ghost use Rattle.std.specs.Prelude.{◌≡◌, ◌≤◌, true, length, map};
 ghost use Rattle.outside.specs.Told.{Makes};
-ghost use Rattle.core_bench.specs.Objects.{AreFresh};
+ghost use Rattle.core_machine.specs.Objects.{AreFresh};
 ghost use Rattle.worker_run.specs.Lanes.{AreNewBerths};
 ghost use Rattle.run_plan.specs.Limits.{most_actions, most_berths};
 

@@ -17,7 +17,7 @@ use outside_mem::MemFloor;
 use outside_real::{RealFloor, RealSink, open_standard};
 use plain_values::NoMemory;
 use real_run::{Telling, run_told, run_told_watched};
-use run_command::{
+use run_console::{
     Cause, OPTIONS, Outputs, Prints, Program, TOGETHER, end, end_unread, tell, tell_ended, words,
 };
 use std::alloc::Global;

@@ -16,8 +16,8 @@ use Rattle.journal_laws.proofs.Claims.{clash}
 use Rattle.journal_laws.proofs.Ours as ours
 use Rattle.core_contract.specs.Disciplines.{LegalBy, berth_script, own_discipline, script_of}
 use Rattle.core_contract.specs.Discipline.{Discipline}
-use Rattle.history_laws.proofs.Fitting as fi
-use Rattle.history_laws.proofs.OwnDiscipline as od
+use Rattle.discipline_laws.proofs.Fitting as fi
+use Rattle.discipline_laws.proofs.OwnDiscipline as od
 use Rattle.delay_rules.specs.Bounds.{is_noted, is_noted_tick}
 use Rattle.delay_rules.specs.Delayed.{delayed_discipline, delayed_seats, is_tick}
 use Rattle.delay_rules.proofs.Bounded as db

@@ -19,7 +19,7 @@ use Rattle.exec_journal.proofs.Parts.{entry, greeting, plan_of, remote, with_fil
 use Rattle.journal_laws.specs.IsLegal.{is_legal}
 use Rattle.journal_laws.proofs.Decided.{legal_by}
 use Rattle.journal_laws.proofs.rows.Opened.{words}
-use Rattle.history_laws.proofs.OwnDiscipline.{legal_own}
+use Rattle.discipline_laws.proofs.OwnDiscipline.{legal_own}
 use Rattle.core_contract.specs.Disciplines.{LegalBy, own_discipline}
 use Rattle.delay_rules.specs.Delayed.{delayed_discipline, delayed_seats}
 use Rattle.progress_laws.specs.Few.{CallsAreFew, DelayedCallsAreFew, is_noise, most_tries}

@@ -13,7 +13,7 @@ use Rattle.exec_journal.proofs.Parts.{entry}
 use Rattle.journal_laws.specs.IsLegal.{is_legal}
 use Rattle.journal_laws.proofs.Decided.{legal_by}
 use Rattle.journal_laws.proofs.rows.Opened.{words}
-use Rattle.history_laws.proofs.OwnDiscipline.{legal_own}
+use Rattle.discipline_laws.proofs.OwnDiscipline.{legal_own}
 use Rattle.core_contract.specs.Disciplines.{LegalBy, own_discipline}
 use Rattle.shared_rules.proofs.Rows.{committed_9}
 use Rattle.progress_laws.specs.Awaits.{Awaits, AwaitsEnd, Owes}

@@ -14,7 +14,7 @@ use Rattle.exec_journal.proofs.Parts.{dynamic, entry, plan_of, remote, single, w
 use Rattle.journal_laws.specs.IsLegal.{is_legal}
 use Rattle.journal_laws.proofs.Decided.{legal_by}
 use Rattle.journal_laws.proofs.rows.Opened.{words}
-use Rattle.history_laws.proofs.OwnDiscipline.{legal_own}
+use Rattle.discipline_laws.proofs.OwnDiscipline.{legal_own}
 use Rattle.core_contract.specs.Disciplines.{LegalBy, own_discipline}
 use Rattle.delay_rules.specs.Delayed.{delayed_discipline}
 use Rattle.shared_rules.specs.declared.pools.SharedPlan.{SharedPlan}

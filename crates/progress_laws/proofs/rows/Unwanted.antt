@@ -15,7 +15,7 @@ use Rattle.journal_laws.specs.IsLegal.{is_legal}
 use Rattle.journal_laws.proofs.Decided.{legal_by}
 use Rattle.journal_laws.proofs.rows.Cancelled.{cancelled_16, plan}
 use Rattle.journal_laws.proofs.rows.Opened.{words}
-use Rattle.history_laws.proofs.OwnDiscipline.{legal_own}
+use Rattle.discipline_laws.proofs.OwnDiscipline.{legal_own}
 use Rattle.core_contract.specs.Disciplines.{LegalBy, own_discipline}
 use Rattle.progress_laws.specs.Rests.{AllRest, Hears, Idles}
 use Rattle.progress_laws.specs.Unwanted.{UnwantedAreAsked}

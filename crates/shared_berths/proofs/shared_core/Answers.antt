@@ -4,7 +4,7 @@ use Rattle.run_plan.specs.Limits.{most_berths}
 use Rattle.spawn_core.specs.Stands.{StandsIn}
 use Rattle.shared_rules.specs.Shared.{shared_discipline}
 use Rattle.shared_rules.specs.Pools.{seats, usable_seats}
-use Rattle.shared_tables.specs.Spoken.{berths_from}
+use Rattle.shared_laws.specs.Spoken.{berths_from}
 use Rattle.shared_berths.specs.declared.SharedBerths.{SharedBerths}
 use Rattle.shared_berths.specs.Stands.{StandsBy}
 use Rattle.shared_berths.proofs.Begun.{by_own, stands}

@@ -1,9 +1,9 @@
 use Rattle.std.proofs.Common.{◌+◌, ◌≤◌, ◌∙◌, List, length, refl, ap, sym, subst, arith}
-use Rattle.lane_crew.specs.declared.pair.Either.{Either}
-use Rattle.core_bench.specs.Objects.{AreFresh}
-use Rattle.lane_runs.specs.declared.proxies.ProxySeat.{ProxySeat}
+use Rattle.lane_threads.specs.declared.pair.Either.{Either}
+use Rattle.core_machine.specs.Objects.{AreFresh}
+use Rattle.lane_runs.specs.declared.proxies.ProxyStart.{ProxyStart}
 use Rattle.lane_runs.specs.Paced.{MayPace, pacer_back}
-use Rattle.tap_lane.specs.declared.seat.TapSeat.{TapSeat}
+use Rattle.tap_lane.specs.declared.seat.TapStart.{TapStart}
 use Rattle.run_values.specs.Settings.{AreOfPlan}
 use Rattle.lane_runs.specs.Seats.{berths_in}
 use Rattle.run_values.specs.Work.{IsWorkOf}
@@ -131,7 +131,7 @@ take_back-requires-clause-stands g c = c.in-Err-run_crew_beside.ensures.back.2.0
 
 pub take_back-requires-clause-berths : goal.take_back-requires-clause-berths
 take_back-requires-clause-berths g c =
-    let same = ap (λ (ls : List (Either (ProxySeat g.row.B.Denot) TapSeat)). length (berths_in ls))
+    let same = ap (λ (ls : List (Either (ProxyStart g.row.B.Denot) TapStart)). length (berths_in ls))
     c.in-Err-run_crew_beside.ensures.back.0 in
     let m = c.args.means.now in
     let all = ap length (seated_berths m.settings.now m.actions.now 0 c.args.unrun.berths.items

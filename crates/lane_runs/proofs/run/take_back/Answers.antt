@@ -2,7 +2,7 @@
 use Rattle.std.proofs.Common.{ℕ, List, [], ◌++◌, ◌∙◌, ap, subst, arith}
 use Rattle.std.specs.Prelude.{length}
 use Rattle.lane_runs.specs.Seats.{berths_in}
-use Rattle.core_bench.specs.Objects.{AreFresh}
+use Rattle.core_machine.specs.Objects.{AreFresh}
 use Rattle.lane_runs.proofs.Whole.{all_lie, are_fresh}
 use Rattle.lane_runs.proofs.run.take_back.Goals as goal
 

@@ -3,7 +3,7 @@ use Rattle.std.specs.Prelude.{length}
 use Rattle.exec_journal.specs.declared.call.Call.TheVariants as call
 use Rattle.core_contract.specs.Laws.{lines_in}
 use Rattle.core_contract.specs.Duties.{duty_of}
-use Rattle.core_bench.proofs.Own.{child_is_own}
+use Rattle.core_machine.proofs.Own.{child_is_own}
 use Rattle.proxy_calls.proofs.Replies.{never_asked}
 use Rattle.proxy_calls.proofs.Entries.{legal_at}
 use Rattle.proxy_calls.proofs.Askings.{asked, lines_before, lines_after, order_holds, order_fits, ask_may, gives_child}

@@ -6,7 +6,7 @@ use Rattle.exec_journal.specs.declared.call.Call.TheVariants as call
 use Rattle.core_contract.specs.Duties.{Commits, duty_of, proxy_lane}
 use Rattle.core_contract.specs.Shelf.{Back}
 use Rattle.core_contract.specs.Laws.{InScript, claimed}
-use Rattle.core_bench.specs.Objects.{IsPlaceAt}
+use Rattle.core_machine.specs.Objects.{IsPlaceAt}
 use Rattle.proxy_calls.proofs.Claimings.{may_commit, commit_made, commit_asks}
 use Rattle.proxy_calls.proofs.Making.{makes_paid}
 use Rattle.proxy_calls.proofs.claiming.commit_files.Goals as goal

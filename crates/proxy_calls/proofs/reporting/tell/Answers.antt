@@ -1,6 +1,6 @@
 use Rattle.std.proofs.Common.{ap, sym, ◌∙◌}
 use Rattle.exec_journal.specs.declared.call.Call.{Call}
-use Rattle.proxy_deeds.specs.declared.halt.ProxyHalt.TheVariants as cause
+use Rattle.proxy_words.specs.declared.halt.ProxyHalt.TheVariants as cause
 use Rattle.core_contract.specs.Duties.{duty_of}
 use Rattle.proxy_calls.proofs.Replies.{is_noted}
 use Rattle.proxy_calls.proofs.Entries.{goes_front}

@@ -2,9 +2,9 @@ use Rattle.std.proofs.Common.{ap, sym, subst, ◌∙◌}
 use Rattle.seat_desk.specs.Passes.{mine}
 use Rattle.core_contract.specs.Shelf.{child_at}
 use Rattle.core_contract.specs.Duties.{duty_of}
-use Rattle.proxy_steps.specs.Lanes.{LaneObjects}
-use Rattle.proxy_steps.specs.Steps.{open_in, SomeKeeps, Finishes, IsServedBy}
-use Rattle.proxy_steps.proofs.Serving.{first_keeps, served_by}
+use Rattle.proxy_laws.specs.Lanes.{LaneObjects}
+use Rattle.proxy_laws.specs.Steps.{open_in, SomeKeeps, Finishes, IsServedBy}
+use Rattle.proxy_laws.proofs.Serving.{first_keeps, served_by}
 use Rattle.proxy_lane.specs.Sites.{means_at}
 use Rattle.proxy_lane.proofs.lane.run.Goals as goal
 

@@ -1,9 +1,9 @@
-use Rattle.due_frames.specs.Frames.{cancel_due}
+use Rattle.request_frames.specs.Frames.{cancel_due}
 use Rattle.std.proofs.Math.Facts.{to_z-of_z}
 use Rattle.std.proofs.lemmas.Result.{err_from_is_err_and}
 use Rattle.std.specs.Prelude.{ℤ}
 use Rattle.std.proofs.Common.{ap, ◌∙◌}
-use Rattle.proxy_steps.proofs.Acting.{gives_cancel, no_cancel}
+use Rattle.proxy_laws.proofs.Acting.{gives_cancel, no_cancel}
 use Rattle.proxy_lane.proofs.sending.act_cancel.Goals as goal
 
 pub returns : goal.returns

@@ -1,13 +1,13 @@
-use Rattle.due_frames.specs.Requests.{room_for}
+use Rattle.request_frames.specs.Requests.{room_for}
 use Rattle.std.proofs.Math.Facts.{to_z-of_z}
 use Rattle.std.proofs.Common.{ap, sym, subst, ◌∙◌, w32, SFits, rules as facts}
 use Rattle.std.proofs.lemmas.Result.{err_from_is_err_and}
-use Rattle.due_frames.specs.declared.frames.Due.TheVariants.{Frame, TooLarge}
+use Rattle.request_frames.specs.declared.frames.Due.TheVariants.{Frame, TooLarge}
 use Rattle.std.specs.Prelude.{ℕ, List}
 use Rattle.sandbox_rooms.specs.declared.room.Room.{Room}
-use Rattle.proxy_deeds.specs.Deeds.{send_asks, due_for}
-use Rattle.proxy_steps.specs.Acts.{Writes}
-use Rattle.proxy_steps.proofs.Acting.{due_writes, large_writes, cut_writes, due_is}
+use Rattle.proxy_words.specs.Deeds.{send_asks, due_for}
+use Rattle.proxy_laws.specs.Acts.{Writes}
+use Rattle.proxy_laws.proofs.Acting.{due_writes, large_writes, cut_writes, due_is}
 use Rattle.proxy_lane.specs.Sites.{means_at}
 use Rattle.proxy_lane.specs.Writing.{asks_in}
 use Rattle.proxy_lane.proofs.sending.write.Goals as goal

@@ -1,6 +1,6 @@
 use Rattle.std.proofs.Common.{List, ℕ, ap, sym, ◌∙◌}
 use Rattle.sandbox_rooms.specs.Rooms.{prepare_asks}
-use Rattle.proxy_steps.proofs.Acting.{gives_writes, send_writes, executor_asks, local_asks}
+use Rattle.proxy_laws.proofs.Acting.{gives_writes, send_writes, executor_asks, local_asks}
 use Rattle.proxy_lane.specs.Writing.{asks_in}
 use Rattle.proxy_lane.proofs.sending.write_frame.Goals as goal
 

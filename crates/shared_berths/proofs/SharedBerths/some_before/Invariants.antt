@@ -1,5 +1,5 @@
 use Rattle.std.proofs.Common.{◌≡◌, false}
-use Rattle.shared_tables.specs.Berths.{some_before}
+use Rattle.shared_laws.specs.Berths.{some_before}
 use Rattle.shared_berths.specs.Stands.{shared_by}
 use Rattle.shared_berths.proofs.SharedBerths.some_before.Given as goal
 

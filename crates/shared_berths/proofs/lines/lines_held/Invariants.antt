@@ -1,5 +1,5 @@
 use Rattle.std.proofs.Common.{◌≡◌, ◌≤◌}
-use Rattle.shared_tables.specs.Berths.{lines_held}
+use Rattle.shared_laws.specs.Berths.{lines_held}
 use Rattle.shared_berths.proofs.lines.lines_held.Given as goal
 
 -- so many so far

@@ -1,6 +1,6 @@
 use Rattle.std.proofs.Common.{◌&&◌, refl, sym, ◌∙◌}
 use Rattle.earliest_first.specs.Choices.{has_room}
-use Rattle.shared_tables.specs.Berths.{is_of_group, some_free}
+use Rattle.shared_laws.specs.Berths.{is_of_group, some_free}
 use Rattle.shared_berths.proofs.Below.{found}
 use Rattle.shared_berths.proofs.lines.some_free.Goals as goal
 

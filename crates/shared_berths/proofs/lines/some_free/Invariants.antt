@@ -1,5 +1,5 @@
 use Rattle.std.proofs.Common.{◌≡◌, false}
-use Rattle.shared_tables.specs.Berths.{some_free}
+use Rattle.shared_laws.specs.Berths.{some_free}
 use Rattle.shared_berths.proofs.lines.some_free.Given as goal
 
 -- none so far

@@ -1,5 +1,5 @@
 use Rattle.std.proofs.Common.{◌≡◌, drop}
-use Rattle.shared_tables.specs.Spoken.{is_before}
+use Rattle.shared_laws.specs.Spoken.{is_before}
 use Rattle.shared_berths.proofs.order.is_before.Given as goal
 
 -- the berths from here on say it

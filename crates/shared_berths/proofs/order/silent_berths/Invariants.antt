@@ -1,6 +1,6 @@
 use Rattle.std.proofs.Common.{◌≡◌}
 use Rattle.arrayvec.specs.ArrayVec.{array_vec_len}
-use Rattle.shared_tables.specs.Spoken.{berths_from}
+use Rattle.shared_laws.specs.Spoken.{berths_from}
 use Rattle.shared_berths.proofs.order.silent_berths.Given as goal
 
 -- those so far

@@ -1,6 +1,6 @@
 use Rattle.std.proofs.Common.{◌≡◌, ◌≤◌, ◌+◌, ◌<◌, ◌^◌, List, ◌++◌, length, vec_len}
 use Rattle.std.specs.Vec.{vec_capacity}
-use Rattle.lane_crew.specs.declared.pair.Either.{Either}
+use Rattle.lane_threads.specs.declared.pair.Either.{Either}
 use Rattle.work_lanes.specs.declared.reading.Reader.{Reader}
 use Rattle.work_lanes.specs.declared.handling.Hands.{Hands}
 use Rattle.work_lanes.specs.Crews.{AreHands, AreLanes}

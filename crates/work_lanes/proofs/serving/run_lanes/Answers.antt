@@ -1,5 +1,5 @@
 use Rattle.std.proofs.Common.{List, refl, ap, length, sym, subst, ◌∙◌, arith}
-use Rattle.lane_crew.specs.declared.pair.Either.{Either}
+use Rattle.lane_threads.specs.declared.pair.Either.{Either}
 use Rattle.message_service.specs.declared.finish.Finish.{Finish}
 use Rattle.message_service.proofs.Made.{put_nothing}
 use Rattle.work_lanes.specs.declared.reading.Reader.{Reader}

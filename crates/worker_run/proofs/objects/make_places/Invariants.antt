@@ -1,6 +1,6 @@
 use Rattle.std.proofs.Common.{◌≡◌, ◌≤◌, vec_len, vec_capacity}
 use Rattle.outside.specs.Told.{Makes}
-use Rattle.core_bench.specs.Objects.{AreFresh}
+use Rattle.core_machine.specs.Objects.{AreFresh}
 use Rattle.worker_run.proofs.objects.make_places.Given as goal
 
 abbrev pub invariant-loop-action : goal.invariant-loop-action

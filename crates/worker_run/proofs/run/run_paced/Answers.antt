@@ -11,7 +11,7 @@ use Rattle.worker_run.proofs.Made.{in_time}
 use Rattle.worker_run.proofs.Reading.{task_ended, task_floor, task_nothing, task_told}
 use Rattle.worker_run.proofs.Said.{RanBy, are_rules, during_said, flag_is, flagged, halts, has_outs, has_pipes, has_race, has_rooms, has_unsaid, is_accounted, is_complete, is_kept, is_legal, is_paired, is_stopped, on_run, succeeds, where_ran}
 use Rattle.worker_run.specs.Headline.{AreRulesOf, HasOuts, HasPipes, HasRace, HasRooms, HasUnsaid, IsAccounted, IsComplete, IsKept, IsLegal, IsPaired, IsSound, IsStopped}
-use Rattle.lane_crew.specs.Beside.{count_of}
+use Rattle.lane_threads.specs.Beside.{count_of}
 use Rattle.lane_runs.specs.Paced.{HasPaced}
 use Rattle.worker_run.proofs.Reading.{unless_lost}
 use Rattle.worker_run.specs.Pacing.{tick_lane_of}

@@ -1,8 +1,8 @@
 -- What the lanes leave is all that the floor has made, and so is what they were to work with.
 use Rattle.std.proofs.Common.{ℕ, List, ap, sym, ◌∙◌, length, map, refl, subst}
-use Rattle.lane_crew.specs.Beside.{count_of}
+use Rattle.lane_threads.specs.Beside.{count_of}
 use Rattle.lane_runs.specs.Runs.{laid_told}
-use Rattle.core_bench.specs.Objects.{AreFresh}
+use Rattle.core_machine.specs.Objects.{AreFresh}
 use Rattle.worker_run.specs.Lanes.{AreNewBerths}
 use Rattle.worker_run.proofs.Made.{made_left, made_unused, not_lost, ran_whole, where_whole, rooms_length, unused}
 use Rattle.worker_run.proofs.running.run_plan.Goals as goal

@@ -60,21 +60,21 @@ module _ (c : goal.Joined-count-self) where
 pub loop-number-preserved : goal.loop-number-preserved
 loop-number-preserved c = elim c.if-count-self.branch [
   | then-count-self w ↦ subst (Next c) (sym w.self-inside-is) (record {
-      ticks = c.loop-number.invariant.ticks;
-      size = sizes c ∙ sym (length-set (now c).marks.items (n c) 1);
-      counts = counts c;
-      marks = counted_marked (facts c) (n c) (now c).counts.items (now c).marks.items (v c)
-          (marked c) (lt c) c.loop-number.invariant.size;
-    })
+    ticks = c.loop-number.invariant.ticks;
+    size = sizes c ∙ sym (length-set (now c).marks.items (n c) 1);
+    counts = counts c;
+    marks = counted_marked (facts c) (n c) (now c).counts.items (now c).marks.items (v c)
+        (marked c) (lt c) c.loop-number.invariant.size;
+  })
   | else-count-self w ↦ subst (Next c) (sym w.self-inside-is) (record {
-      ticks = c.loop-number.invariant.ticks;
-      size = sizes c;
-      counts = counts c;
-      marks = counted_unmarked (facts c) (n c) (now c).counts.items (now c).marks.items (v c)
-          (marked c) (lt c) c.loop-number.invariant.size
-          (lt-leb c.self.inside.ticks (v c) (let short = w.if-count-self.false in
-          let same = c.loop-number.invariant.ticks in omega (arith, short, same)));
-    })
+    ticks = c.loop-number.invariant.ticks;
+    size = sizes c;
+    counts = counts c;
+    marks = counted_unmarked (facts c) (n c) (now c).counts.items (now c).marks.items (v c)
+        (marked c) (lt c) c.loop-number.invariant.size
+        (lt-leb c.self.inside.ticks (v c) (let short = w.if-count-self.false in
+        let same = c.loop-number.invariant.ticks in omega (arith, short, same)));
+  })
 ]
 
 pub returns : goal.returns

@@ -11,10 +11,10 @@ pub record CountedTo (states : List ActionState) (old : Inside) (n : ℕ) (now :
   pub size : length now.counts.items ≡ length now.marks.items
   pub counts : CountedBelow states old.ticks n old.counts.items now.counts.items
   pub marks : MarkedBelow (record {
-      ticks = old.ticks;
-      counts = now.counts.items;
-      marks = old.marks.items;
-    }) n now.marks.items
+    ticks = old.ticks;
+    counts = now.counts.items;
+    marks = old.marks.items;
+  }) n now.marks.items
 
 abbrev pub invariant-loop-number : goal.invariant-loop-number
 invariant-loop-number l = CountedTo l.ready l.initial.self-inside l.number l.self-inside

@@ -6,14 +6,14 @@ use Rattle.sandbox_rooms.specs.declared.room.Room.{Room}
 use Rattle.sandbox_rooms.specs.Calls.{Asked}
 use Rattle.sandbox_rooms.specs.Rooms.{gather_asks}
 use Rattle.sandbox_rooms.proofs.Runs.{made_none}
-use Rattle.order_acts.specs.Acts.{ReportsLooks}
+use Rattle.berth_acts.specs.Acts.{ReportsLooks}
 use Rattle.run_values.specs.Settings.{speaks_remote}
-use Rattle.due_frames.specs.Requests.{room_for}
+use Rattle.request_frames.specs.Requests.{room_for}
 use Rattle.seat_desk.specs.Passes.{basis, seen}
-use Rattle.proxy_deeds.specs.Deeds.{FoundIn, look_asks}
-use Rattle.proxy_steps.specs.Acts.{GatherActs}
-use Rattle.proxy_steps.specs.Lanes.{LaneObjects}
-use Rattle.proxy_steps.proofs.Acting.{gather_none, gather_answered, gather_looked}
+use Rattle.proxy_words.specs.Deeds.{FoundIn, look_asks}
+use Rattle.proxy_laws.specs.Acts.{GatherActs}
+use Rattle.proxy_laws.specs.Lanes.{LaneObjects}
+use Rattle.proxy_laws.proofs.Acting.{gather_none, gather_answered, gather_looked}
 use Rattle.proxy_lane.proofs.Siting.{same_hands}
 use Rattle.proxy_lane.specs.Sites.{means_at}
 use Rattle.proxy_lane.proofs.gathering.ProxyLane+Bench+B+P+C+B+R.act_gather.Goals as goal

@@ -6,11 +6,11 @@ use Rattle.seat_desk.specs.Passes.{basis, seen}
 use Rattle.exec_journal.specs.declared.call.Wanted.TheVariants as wanted
 use Rattle.exec_journal.specs.declared.call.Call.TheVariants as call
 use Rattle.core_contract.specs.Duties.{Gathers, duty_of}
-use Rattle.proxy_deeds.specs.Deeds.{Looked, looks_from, lacks}
-use Rattle.proxy_deeds.specs.Told.{IsTold, AreTold}
+use Rattle.proxy_words.specs.Deeds.{Looked, looks_from, lacks}
+use Rattle.proxy_words.specs.Told.{IsTold, AreTold}
 use Rattle.proxy_calls.specs.Calls.{MayMake}
-use Rattle.proxy_steps.proofs.Acting.{may_look_at}
-use Rattle.proxy_steps.proofs.Filing.{output_told, looks_on}
+use Rattle.proxy_laws.proofs.Acting.{may_look_at}
+use Rattle.proxy_laws.proofs.Filing.{output_told, looks_on}
 use Rattle.proxy_lane.proofs.Siting.{looked_on, now_at_site, stays_here}
 use Rattle.proxy_lane.proofs.gathering.ProxyLane+Bench+B+P+C+B+R.answered.Goals as goal
 

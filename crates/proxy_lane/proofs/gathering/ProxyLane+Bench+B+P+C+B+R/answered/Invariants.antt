@@ -1,5 +1,5 @@
 use Rattle.std.proofs.Common.{◌≡◌, length}
-use Rattle.proxy_deeds.specs.Deeds.{looks_from}
+use Rattle.proxy_words.specs.Deeds.{looks_from}
 use Rattle.proxy_lane.specs.Sites.{StaysHere, WereTold}
 use Rattle.proxy_lane.proofs.gathering.ProxyLane+Bench+B+P+C+B+R.answered.Given as goal
 

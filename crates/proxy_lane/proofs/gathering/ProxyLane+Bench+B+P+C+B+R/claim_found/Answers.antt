@@ -16,12 +16,12 @@ use Rattle.std.proofs.lemmas.Result.{err_from_is_err_and}
 use Rattle.core_contract.specs.Discipline.{Discipline, outputs_in}
 use Rattle.exec_journal.specs.Entries.{same_attempt}
 use Rattle.core_contract.specs.Duties.{Duty, Asks, Launches, Sends, Cancels, Gathers, Commits, Kills, Left, duty_of, may_do}
-use Rattle.core_bench.specs.Objects.{IsPlaceAt}
+use Rattle.core_machine.specs.Objects.{IsPlaceAt}
 use Rattle.proxy_calls.specs.Claims.{claim_of, IsGranted, OwesCommit}
-use Rattle.proxy_deeds.specs.declared.halt.ProxyHalt.{ProxyHalt}
-use Rattle.proxy_steps.specs.Steps.{files_in, HasFiles, IsCauseOfClaim}
-use Rattle.proxy_steps.proofs.Sends.{starts_later}
-use Rattle.proxy_steps.proofs.Serving.{proxy_on, by_rules}
+use Rattle.proxy_words.specs.declared.halt.ProxyHalt.{ProxyHalt}
+use Rattle.proxy_laws.specs.Steps.{files_in, HasFiles, IsCauseOfClaim}
+use Rattle.proxy_laws.proofs.Sends.{starts_later}
+use Rattle.proxy_laws.proofs.Serving.{proxy_on, by_rules}
 use Rattle.proxy_lane.proofs.Siting.{same_on, stays_at}
 use Rattle.proxy_lane.proofs.gathering.ProxyLane+Bench+B+P+C+B+R.claim_found.Goals as goal
 

@@ -7,13 +7,13 @@ use Rattle.exec_journal.specs.declared.attempt.Attempt.{Attempt}
 use Rattle.exec_journal.specs.declared.call.Call.{Call}
 use Rattle.exec_journal.specs.declared.call.Found.{Found}
 use Rattle.exec_journal.specs.declared.reply.Reply.{Reply}
-use Rattle.proxy_deeds.specs.declared.halt.ProxyHalt.{ProxyHalt}
+use Rattle.proxy_words.specs.declared.halt.ProxyHalt.{ProxyHalt}
 use Rattle.core_contract.specs.Shelf.{child_at}
 use Rattle.core_contract.specs.Duties.{Asks, duty_of, proxy_lane}
 use Rattle.proxy_calls.specs.Calls.{MakesNone}
-use Rattle.proxy_steps.specs.Steps.{ClaimsFound, IsCauseOfClaim, OwesClaim}
-use Rattle.proxy_steps.proofs.Shelving.{claim_shelved}
-use Rattle.proxy_steps.proofs.Founds.{gather_goes, gather_cut, claim_halts}
+use Rattle.proxy_laws.specs.Steps.{ClaimsFound, IsCauseOfClaim, OwesClaim}
+use Rattle.proxy_laws.proofs.Shelving.{claim_shelved}
+use Rattle.proxy_laws.proofs.Founds.{gather_goes, gather_cut, claim_halts}
 use Rattle.proxy_lane.proofs.Siting.{now_at_site, obeys_by, obeys_with, same_on, stays_at, work_at, work_on}
 use Rattle.proxy_lane.specs.Held.{with_berth}
 use Rattle.proxy_lane.specs.declared.site.Site.{Site}

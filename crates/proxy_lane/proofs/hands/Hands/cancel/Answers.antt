@@ -1,9 +1,9 @@
 use Rattle.std.proofs.Common.{ℤ, refl, ap, sym, subst, ◌∙◌}
 use Rattle.std.proofs.Math.Facts.{to_z-of_z}
 use Rattle.std.specs.Prelude.{option_map}
-use Rattle.proxy_steps.specs.Acts.{CancelActs}
-use Rattle.proxy_steps.specs.Lanes.{open_line, open_of}
-use Rattle.proxy_steps.proofs.Acting.{no_line}
+use Rattle.proxy_laws.specs.Acts.{CancelActs}
+use Rattle.proxy_laws.specs.Lanes.{open_line, open_of}
+use Rattle.proxy_laws.proofs.Acting.{no_line}
 use Rattle.proxy_lane.specs.Writing.{CancelsBy}
 use Rattle.proxy_lane.proofs.Siting.{by_line_at}
 use Rattle.proxy_lane.proofs.hands.Hands.cancel.Goals as goal

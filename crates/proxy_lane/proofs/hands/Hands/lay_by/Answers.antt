@@ -1,9 +1,9 @@
 use Rattle.std.proofs.Common.{◌≡◌, ℕ, Option, [], ◌∷◌, refl, ap, sym, subst, ◌∙◌}
 use Rattle.std.specs.Prelude.{option_map, map, IfSome}
 use Rattle.std.proofs.lemmas.List.{map-append}
-use Rattle.proxy_steps.specs.Lanes.{open_of, back_of}
-use Rattle.proxy_steps.specs.Steps.{open_in}
-use Rattle.proxy_steps.proofs.Acting.{line_told, line_is, no_line}
+use Rattle.proxy_laws.specs.Lanes.{open_of, back_of}
+use Rattle.proxy_laws.specs.Steps.{open_in}
+use Rattle.proxy_laws.proofs.Acting.{line_told, line_is, no_line}
 use Rattle.proxy_lane.proofs.Siting.{laid_at}
 use Rattle.proxy_lane.proofs.hands.Hands.lay_by.Goals as goal
 

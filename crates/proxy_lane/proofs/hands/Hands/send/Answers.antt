@@ -1,8 +1,8 @@
 use Rattle.std.proofs.Common.{refl, ap, sym, ◌∙◌}
 use Rattle.std.specs.Prelude.{option_map}
-use Rattle.proxy_steps.specs.Acts.{Writes}
-use Rattle.proxy_steps.specs.Lanes.{open_line, open_of}
-use Rattle.proxy_steps.proofs.Acting.{no_line}
+use Rattle.proxy_laws.specs.Acts.{Writes}
+use Rattle.proxy_laws.specs.Lanes.{open_line, open_of}
+use Rattle.proxy_laws.proofs.Acting.{no_line}
 use Rattle.proxy_lane.specs.Writing.{asks_of, due_of}
 use Rattle.proxy_lane.proofs.Siting.{by_line_at}
 use Rattle.proxy_lane.proofs.hands.Hands.send.Goals as goal

@@ -7,11 +7,11 @@ use Rattle.std.proofs.lemmas.List.Elements.{All-get_or}
 use Rattle.seat_desk.specs.Passes.{basis, seen}
 use Rattle.remote_messages.specs.declared.file.NamedFile.{NamedFile}
 use Rattle.remote_messages.specs.declared.work.WorkInput.{WorkInput}
-use Rattle.proxy_deeds.specs.Deeds.{AreInputs, look_at, looks_of}
-use Rattle.proxy_deeds.specs.Told.{AreTold}
+use Rattle.proxy_words.specs.Deeds.{AreInputs, look_at, looks_of}
+use Rattle.proxy_words.specs.Told.{AreTold}
 use Rattle.run_values.specs.Work.{IsMadeBy}
-use Rattle.proxy_steps.proofs.Serving.{by_rules}
-use Rattle.proxy_steps.proofs.Filing.{inputs_more, input_told, take_next}
+use Rattle.proxy_laws.proofs.Serving.{by_rules}
+use Rattle.proxy_laws.proofs.Filing.{inputs_more, input_told, take_next}
 use Rattle.proxy_lane.proofs.Siting.{due_on, here_on, stays_here}
 use Rattle.proxy_lane.specs.Sites.{WereTold}
 use Rattle.proxy_lane.proofs.inputs.ProxyLane+Bench+B+P+C+B+R.inputs_of.Goals as goal

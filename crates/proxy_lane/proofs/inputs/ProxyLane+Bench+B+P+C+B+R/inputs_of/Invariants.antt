@@ -1,5 +1,5 @@
 use Rattle.std.proofs.Common.{◌≡◌, take}
-use Rattle.proxy_deeds.specs.Deeds.{AreInputs, looks_of}
+use Rattle.proxy_words.specs.Deeds.{AreInputs, looks_of}
 use Rattle.proxy_lane.specs.Sites.{StaysHere, WereTold}
 use Rattle.proxy_lane.proofs.inputs.ProxyLane+Bench+B+P+C+B+R.inputs_of.Given as goal
 

@@ -1,8 +1,8 @@
 use Rattle.std.proofs.Common.{ℕ, Option, refl, sym, subst, ◌∙◌}
 use Rattle.seat_desk.specs.Passes.{mine}
 use Rattle.core_contract.specs.Shelf.{child_at}
-use Rattle.proxy_steps.specs.Steps.{AreLaidBy}
-use Rattle.proxy_steps.proofs.Acting.{none_there, some_there}
+use Rattle.proxy_laws.specs.Steps.{AreLaidBy}
+use Rattle.proxy_laws.proofs.Acting.{none_there, some_there}
 use Rattle.proxy_lane.proofs.killing.ProxyLane+Bench+B+P+C+B+R.give_up.Goals as goal
 
 pub lay_by-requires-clause-opened : goal.lay_by-requires-clause-opened

@@ -1,10 +1,10 @@
 use Rattle.std.proofs.Common.{◌≡◌, None, refl, ap, sym, ◌∙◌, eq-eqb}
 use Rattle.exec_journal.specs.declared.call.Call.TheVariants as call
 use Rattle.core_contract.specs.Duties.{Duty, may_do}
-use Rattle.proxy_steps.specs.Lanes.{open_line}
-use Rattle.proxy_steps.specs.Steps.{open_in}
-use Rattle.proxy_steps.proofs.Shelving.{told_shelved}
-use Rattle.proxy_steps.proofs.Ending.{kill_goes, kill_halts}
+use Rattle.proxy_laws.specs.Lanes.{open_line}
+use Rattle.proxy_laws.specs.Steps.{open_in}
+use Rattle.proxy_laws.proofs.Shelving.{told_shelved}
+use Rattle.proxy_laws.proofs.Ending.{kill_goes, kill_halts}
 use Rattle.proxy_lane.proofs.Siting.{obeys_told}
 use Rattle.proxy_lane.specs.Sites.{means_at}
 use Rattle.proxy_lane.proofs.killing.ProxyLane+Bench+B+P+C+B+R.kill.Goals as goal

@@ -1,11 +1,11 @@
 use Rattle.std.proofs.Common.{refl, ap, sym, subst, ◌∙◌}
 use Rattle.std.proofs.lemmas.Result.{err_from_is_err_and}
 use Rattle.core_contract.specs.Shelf.{child_at}
-use Rattle.proxy_deeds.specs.declared.halt.ProxyHalt.{ProxyHalt}
-use Rattle.proxy_steps.specs.Steps.{Halts, open_in}
-use Rattle.proxy_steps.proofs.Acting.{none_open}
-use Rattle.proxy_steps.proofs.Rounds.{ask_goes, ask_halts, may_obey, stopped}
-use Rattle.proxy_steps.proofs.Serving.{goes_on, halts_on}
+use Rattle.proxy_words.specs.declared.halt.ProxyHalt.{ProxyHalt}
+use Rattle.proxy_laws.specs.Steps.{Halts, open_in}
+use Rattle.proxy_laws.proofs.Acting.{none_open}
+use Rattle.proxy_laws.proofs.Rounds.{ask_goes, ask_halts, may_obey, stopped}
+use Rattle.proxy_laws.proofs.Serving.{goes_on, halts_on}
 use Rattle.proxy_lane.proofs.Siting.{same_on, site_on}
 use Rattle.proxy_lane.specs.Sites.{means_at}
 use Rattle.proxy_lane.proofs.lane.ProxyLane+Bench+B+P+C+B+R.next.Goals as goal

@@ -1,7 +1,7 @@
 use Rattle.std.proofs.Common.{refl, sym, subst, ◌∙◌}
-use Rattle.proxy_steps.specs.Steps.{open_in, SomeKeeps}
-use Rattle.proxy_steps.proofs.Shelving.{at_half}
-use Rattle.proxy_steps.proofs.Serving.{goes_on, some_on, halts_on, halts_may, ends_halted, ends_stopped}
+use Rattle.proxy_laws.specs.Steps.{open_in, SomeKeeps}
+use Rattle.proxy_laws.proofs.Shelving.{at_half}
+use Rattle.proxy_laws.proofs.Serving.{goes_on, some_on, halts_on, halts_may, ends_halted, ends_stopped}
 use Rattle.proxy_lane.proofs.Siting.{same_on, site_on}
 use Rattle.proxy_lane.specs.declared.site.Site.{Site}
 use Rattle.proxy_lane.specs.Sites.{means_at, IsSite}

@@ -1,4 +1,4 @@
-use Rattle.proxy_steps.specs.Steps.{Goes}
+use Rattle.proxy_laws.specs.Steps.{Goes}
 use Rattle.proxy_lane.specs.Sites.{means_at, IsReady, IsSameLane}
 use Rattle.proxy_lane.proofs.lane.ProxyLane+Bench+B+P+C+B+R.serve.Given as goal
 

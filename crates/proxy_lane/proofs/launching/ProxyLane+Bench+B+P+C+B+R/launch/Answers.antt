@@ -7,22 +7,22 @@ use Rattle.exec_journal.specs.declared.call.Started.TheVariants as start
 use Rattle.exec_journal.specs.declared.reply.Reply.TheVariants as reply
 use Rattle.outside.specs.Launches.{IsNewFeed, IsNewTap, IsNewChild}
 use Rattle.outside.specs.Told.{BerthTold, FeedTold, ChildTold}
-use Rattle.order_acts.specs.declared.launching.Opened.{Opened}
-use Rattle.order_acts.specs.Acts.{OnOpened}
-use Rattle.order_acts.specs.Acts as acts
+use Rattle.berth_acts.specs.declared.launching.Opened.{Opened}
+use Rattle.berth_acts.specs.Acts.{OnOpened}
+use Rattle.berth_acts.specs.Acts as acts
 use Rattle.core_contract.specs.Shelf.{child_at}
 use Rattle.core_contract.specs.Duties.{Launches, duty_of}
-use Rattle.proxy_deeds.specs.declared.halt.ProxyHalt.{ProxyHalt}
-use Rattle.proxy_deeds.specs.declared.halt.ProxyHalt.TheVariants as cause
-use Rattle.proxy_deeds.specs.Lines.{unsaid_by}
-use Rattle.proxy_deeds.specs.Ends.{HaltsBy}
+use Rattle.proxy_words.specs.declared.halt.ProxyHalt.{ProxyHalt}
+use Rattle.proxy_words.specs.declared.halt.ProxyHalt.TheVariants as cause
+use Rattle.proxy_words.specs.Lines.{unsaid_by}
+use Rattle.proxy_words.specs.Ends.{HaltsBy}
 use Rattle.proxy_calls.proofs.Reportings.{may_launch}
-use Rattle.proxy_steps.specs.declared.hands.EndedFeed.{EndedFeed}
-use Rattle.proxy_steps.specs.declared.hands.OpenFeed.{OpenFeed}
-use Rattle.proxy_steps.specs.Lanes.{back_of, open_of}
-use Rattle.proxy_steps.proofs.Acting.{none_open}
-use Rattle.proxy_steps.proofs.Shelving.{child_more, told_shelved}
-use Rattle.proxy_steps.proofs.Starts.{calls_deed, launch_deed, launch_halts, unsaid_halts, fault_goes, started_goes}
+use Rattle.proxy_laws.specs.declared.hands.EndedFeed.{EndedFeed}
+use Rattle.proxy_laws.specs.declared.hands.OpenFeed.{OpenFeed}
+use Rattle.proxy_laws.specs.Lanes.{back_of, open_of}
+use Rattle.proxy_laws.proofs.Acting.{none_open}
+use Rattle.proxy_laws.proofs.Shelving.{child_more, told_shelved}
+use Rattle.proxy_laws.proofs.Starts.{calls_deed, launch_deed, launch_halts, unsaid_halts, fault_goes, started_goes}
 use Rattle.sandbox_rooms.proofs.Runs.{made_none}
 use Rattle.proxy_lane.proofs.Siting.{obeys_told, stays_at, goes_at, halts_at, obeyed_at, ordered_at, obeys_at}
 use Rattle.proxy_lane.specs.Held.{held_of}

@@ -5,12 +5,12 @@ use Rattle.seat_desk.specs.Passes.{basis, seen}
 use Rattle.core_contract.specs.Ruled.{answer_after}
 use Rattle.remote_messages.specs.declared.file.NamedFile.{NamedFile}
 use Rattle.run_values.specs.Settings.{HasGroup}
-use Rattle.proxy_deeds.specs.Deeds.{AreInputs, looks_of, send_asks, due_for}
-use Rattle.proxy_deeds.specs.Told.{AreTold}
-use Rattle.proxy_deeds.proofs.Inputs.{are_from}
-use Rattle.proxy_steps.specs.Acts.{SendActs, Writes}
-use Rattle.proxy_steps.specs.Lanes.{LaneObjects}
-use Rattle.proxy_steps.proofs.Acting.{send_acts, no_inputs}
+use Rattle.proxy_words.specs.Deeds.{AreInputs, looks_of, send_asks, due_for}
+use Rattle.proxy_words.specs.Told.{AreTold}
+use Rattle.proxy_words.proofs.Inputs.{are_from}
+use Rattle.proxy_laws.specs.Acts.{SendActs, Writes}
+use Rattle.proxy_laws.specs.Lanes.{LaneObjects}
+use Rattle.proxy_laws.proofs.Acting.{send_acts, no_inputs}
 use Rattle.proxy_lane.specs.Held.{ByOpenLine, IsOpen}
 use Rattle.proxy_lane.specs.declared.site.Site.{Site}
 use Rattle.proxy_lane.specs.Sites.{means_at}

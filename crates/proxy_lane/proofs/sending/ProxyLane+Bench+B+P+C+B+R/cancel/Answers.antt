@@ -4,11 +4,11 @@ use Rattle.std.proofs.Math.Facts.{to_z-of_z}
 use Rattle.seat_desk.specs.Passes.{mine}
 use Rattle.core_contract.specs.Duties.{Asks, duty_of}
 use Rattle.proxy_calls.specs.Calls.{MakesNone}
-use Rattle.proxy_steps.specs.Lanes.{open_line}
-use Rattle.proxy_steps.specs.Steps.{OwesWrote, TellsWrote, IsCauseOf}
-use Rattle.proxy_steps.proofs.Acting.{cancel_owed}
-use Rattle.proxy_steps.proofs.Shelving.{wrote_shelved}
-use Rattle.proxy_steps.proofs.Sends.{cancel_goes, cancel_halts}
+use Rattle.proxy_laws.specs.Lanes.{open_line}
+use Rattle.proxy_laws.specs.Steps.{OwesWrote, TellsWrote, IsCauseOf}
+use Rattle.proxy_laws.proofs.Acting.{cancel_owed}
+use Rattle.proxy_laws.proofs.Shelving.{wrote_shelved}
+use Rattle.proxy_laws.proofs.Sends.{cancel_goes, cancel_halts}
 use Rattle.proxy_lane.specs.Held.{ByOpenLine, with_feed}
 use Rattle.proxy_lane.specs.Sites.{means_at, ReportsWrote}
 use Rattle.proxy_lane.specs.Writing.{CancelsBy}

@@ -4,11 +4,11 @@ use Rattle.std.proofs.Math.Facts.{to_z-of_z}
 use Rattle.plain_values.specs.declared.no_memory.NoMemory.{NoMemory}
 use Rattle.exec_journal.specs.declared.call.Call.TheVariants as call
 use Rattle.exec_journal.specs.declared.call.Written.{Written}
-use Rattle.proxy_deeds.specs.declared.halt.ProxyHalt.TheVariants.{NoMemory as Short}
+use Rattle.proxy_words.specs.declared.halt.ProxyHalt.TheVariants.{NoMemory as Short}
 use Rattle.core_contract.specs.Duties.{duty_of, may_do}
 use Rattle.proxy_calls.specs.Reports.{Told}
-use Rattle.proxy_steps.specs.Steps.{OwesWrote, IsCauseOf}
-use Rattle.proxy_steps.proofs.Acting.{may_wrote}
+use Rattle.proxy_laws.specs.Steps.{OwesWrote, IsCauseOf}
+use Rattle.proxy_laws.proofs.Acting.{may_wrote}
 use Rattle.proxy_lane.proofs.Siting.{reports_wrote, stays_at}
 use Rattle.proxy_lane.proofs.sending.ProxyLane+Bench+B+P+C+B+R.report.Goals as goal
 

@@ -5,12 +5,12 @@ use Rattle.std.proofs.Math.Facts.{to_z-of_z}
 use Rattle.seat_desk.specs.Passes.{mine, basis, seen}
 use Rattle.core_contract.specs.Duties.{Asks, Sends, duty_of}
 use Rattle.proxy_calls.specs.Calls.{MakesNone}
-use Rattle.proxy_steps.specs.Acts.{SendActs}
-use Rattle.proxy_steps.specs.Lanes.{open_line}
-use Rattle.proxy_steps.specs.Steps.{OwesWrote, TellsWrote, IsCauseOf}
-use Rattle.proxy_steps.proofs.Acting.{wrote_owed}
-use Rattle.proxy_steps.proofs.Shelving.{wrote_shelved}
-use Rattle.proxy_steps.proofs.Sends.{send_goes, send_halts}
+use Rattle.proxy_laws.specs.Acts.{SendActs}
+use Rattle.proxy_laws.specs.Lanes.{open_line}
+use Rattle.proxy_laws.specs.Steps.{OwesWrote, TellsWrote, IsCauseOf}
+use Rattle.proxy_laws.proofs.Acting.{wrote_owed}
+use Rattle.proxy_laws.proofs.Shelving.{wrote_shelved}
+use Rattle.proxy_laws.proofs.Sends.{send_goes, send_halts}
 use Rattle.proxy_lane.specs.Held.{ByOpenLine, with_feed}
 use Rattle.proxy_lane.specs.Sites.{means_at, ReportsWrote}
 use Rattle.proxy_lane.proofs.Siting.{is_open, now_at_site, obeys_by, obeys_with, open_is, same_on, work_at}

@@ -1,5 +1,5 @@
 use Rattle.std.proofs.Common.{refl, sym, ◌∙◌, ◌&&◌, cond, ◌/◌}
-use Rattle.shared_tables.specs.Spoken.{moved}
+use Rattle.shared_laws.specs.Spoken.{moved}
 use Rattle.shared_berths.proofs.Noted.{silent, speaks, stands, unkept}
 use Rattle.shared_berths.proofs.policy.SharedBerthsPolicy.note.Goals.{else-is_word-via-then-is_word+else-is_kept, else-is_word-via-else-is_word}
 use Rattle.shared_berths.proofs.policy.SharedBerthsPolicy.note.Goals as goal

@@ -1,7 +1,7 @@
 use Rattle.seat_desk.specs.Passes.{mine}
 use Rattle.exec_journal.specs.declared.call.Call.TheVariants as call
 use Rattle.tap_lane.proofs.Replies.{of_take, no_other, take_no_file}
-use Rattle.core_bench.specs.Bench.{ComesOut}
+use Rattle.core_machine.specs.Bench.{ComesOut}
 use Rattle.tap_lane.proofs.Entries.{called_by, take_may}
 use Rattle.tap_lane.proofs.calls.TapLane+Bench+B+P+C.take.Goals as goal
 

@@ -1,4 +1,4 @@
-use Rattle.core_bench.specs.Bench.{ComesOut}
+use Rattle.core_machine.specs.Bench.{ComesOut}
 use Rattle.tap_lane.proofs.Entries.{told_answer}
 use Rattle.tap_lane.proofs.calls.TapLane+Bench+B+P+C.tell_answer.Goals as goal
 

@@ -1,5 +1,0 @@
-use Rattle.core_bench.proofs.Own.{child_is_own}
-use Rattle.core_bench.proofs.laws.children_are_own.Goals as goal
-
-pub returns : goal.returns
-returns c = child_is_own

@@ -1,5 +1,0 @@
-use Rattle.history_laws.proofs.Going.{duty_is}
-use Rattle.history_laws.proofs.laws.duties_are_newest_works.Goals as goal
-
-pub returns : goal.returns
-returns c = duty_is

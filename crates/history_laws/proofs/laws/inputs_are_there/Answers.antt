@@ -1,5 +1,0 @@
-use Rattle.history_laws.proofs.Inputs as inputs
-use Rattle.history_laws.proofs.laws.inputs_are_there.Goals as goal
-
-pub returns : goal.returns
-returns c = inputs.inputs_are_there

@@ -1,5 +1,0 @@
-use Rattle.history_laws.proofs.Ordering as ordering
-use Rattle.history_laws.proofs.laws.orders_hold.Goals as goal
-
-pub returns : goal.returns
-returns c = ordering.orders_hold
