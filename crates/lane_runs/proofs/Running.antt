@@ -37,7 +37,7 @@ use Rattle.lane_runs.specs.declared.proxies.ProxyStart.{ProxyStart}
 use Rattle.proxy_lane.specs.declared.lane.ProxyLeft.{ProxyLeft}
 use Rattle.tap_lane.specs.declared.seat.TapStart.{TapStart}
 use Rattle.tap_lane.specs.declared.ends.TapLeft.{TapLeft}
-use Rattle.lane_runs.specs.Seats.{IsProxySeat, IsTapSeat, AreSeats, SpeechesFit, means_for, means_of}
+use Rattle.lane_runs.specs.Seats.{IsProxyStart, IsTapStart, AreSeats, SpeechesFit, means_for, means_of}
 use Rattle.lane_runs.specs.Ran.{EachBerthRan}
 
 -- the speeches of the berths from w on fit them
@@ -110,7 +110,7 @@ module _ {M G Q : Type 0} (g : Ghosts M Call Reply G Q) {B D T K : Type 0}
 
   module _ (q : Q) (settings : Settings) (actions : List WorkAction) where
     may_proxy : (w : ℕ) (b : B) (s : Speech) (x : ProxyStart B)
-        → IsProxySeat settings actions w b s x → w < (rules q).seats
+        → IsProxyStart settings actions w b s x → w < (rules q).seats
         → FitsSettings (rules q) w s settings → IsWorkOf (rules q).plan actions
         → MayRun May q (2 * w) (First x)
     may_proxy w b s x is below fits work desk bells pass of fresh number bell by =
@@ -131,7 +131,7 @@ module _ {M G Q : Type 0} (g : Ghosts M Call Reply G Q) {B D T K : Type 0}
               (subst (λ (m : Means). IsWorkOf (rules q).plan m.actions) (sym is.2) work),
         )
 
-    may_tap : (w : ℕ) (s : Speech) (y : TapStart) → IsTapSeat w s y → w < (rules q).seats
+    may_tap : (w : ℕ) (s : Speech) (y : TapStart) → IsTapStart w s y → w < (rules q).seats
         → MayRun May q (2 * w + 1) (Second y)
     may_tap w s y is below desk bells pass of fresh number bell by = (
       of,
@@ -168,7 +168,7 @@ module _ {M G Q : Type 0} (g : Ghosts M Call Reply G Q) {B D T K : Type 0}
   -- ---- after they ran
 
   served : (q : Q) (h : History) (settings : Settings) (actions : List WorkAction) (w : ℕ) (b : B)
-      (s : Speech) (x : ProxyStart B) (u : ProxyLeft B D K) → IsProxySeat settings actions w b s x
+      (s : Speech) (x : ProxyStart B) (u : ProxyLeft B D K) → IsProxyStart settings actions w b s x
       → LaneEnds HasRan q h (2 * w) (First x) (First u)
       → Ended (means_for settings actions s) (rule q) (proxy_lane w) (calls_by (proxy_lane w) h) h
       (berth b) (berth u.berth) (map (back_of feed child) u.feeds.items)
@@ -197,7 +197,7 @@ module _ {M G Q : Type 0} (g : Ghosts M Call Reply G Q) {B D T K : Type 0}
       (subst (λ (o : Means). Of o (basis r.after) r.after.lane (mine r.after) x.berth) is.2 late))))
 
   told : (q : Q) (h : History) (w : ℕ) (s : Speech) (y : TapStart) (v : TapLeft T)
-      → IsTapSeat w s y → LaneEnds HasRan q h (2 * w + 1) (Second y) (Second v)
+      → IsTapStart w s y → LaneEnds HasRan q h (2 * w + 1) (Second y) (Second v)
       → tap.LaneEnds s (tap_lane w) v.halted (map (back_by heard) v.taps.items)
       (calls_by (tap_lane w) h)
   told q h w s y v is r =

@@ -8,7 +8,7 @@ use Rattle.run_values.specs.declared.settings.Settings.{Settings}
 use Rattle.remote_messages.specs.declared.work.WorkAction.{WorkAction}
 use Rattle.lane_runs.specs.declared.proxies.ProxyStart.{ProxyStart}
 use Rattle.tap_lane.specs.declared.seat.TapStart.{TapStart}
-use Rattle.lane_runs.specs.Seats.{IsProxySeat, IsTapSeat, AreSeats, HasSeats, berths_in}
+use Rattle.lane_runs.specs.Seats.{IsProxyStart, IsTapStart, AreSeats, HasSeats, berths_in}
 
 pub two_more : {X : Type 0} (xs ys zs : List X) (x y : X) → ys ≡ xs ++ x ∷ [] → zs ≡ ys ++ y ∷ []
     → zs ≡ xs ++ x ∷ y ∷ []
@@ -52,10 +52,10 @@ pub seated_more : {B : Type 0} (settings : Settings) (actions : List WorkAction)
     → AreSeats settings actions 0 bs ss (lanes' ++ more)
 seated_more {B} settings actions i n b s bs rest rest' ss lanes lanes' has number berths speeches so_far more are =
     let two : List (Either (ProxyStart B) TapStart) = First has.proxy ∷ Second has.heard ∷ [] in
-    let proxy : IsProxySeat settings actions i b s has.proxy =
-    subst (λ (k : ℕ). IsProxySeat settings actions k b s has.proxy) number has.is_proxy in
-    let tap : IsTapSeat i s has.heard =
-    subst (λ (k : ℕ). IsTapSeat k s has.heard) number has.is_tap in
+    let proxy : IsProxyStart settings actions i b s has.proxy =
+    subst (λ (k : ℕ). IsProxyStart settings actions k b s has.proxy) number has.is_proxy in
+    let tap : IsTapStart i s has.heard =
+    subst (λ (k : ℕ). IsTapStart k s has.heard) number has.is_tap in
     let stand : lanes' ++ more ≡ lanes ++ (two ++ more) =
     ap (λ (ls : List (Either (ProxyStart B) TapStart)). ls ++ more) has.grown
     ∙ append_assoc lanes two more in

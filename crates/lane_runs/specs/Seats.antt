@@ -17,8 +17,8 @@ means_for settings actions spoken =
     record { speech = spoken; settings = settings; actions = actions }
 
 -- the tap lane of the berth w hears this speech
-abbrev pub IsTapSeat : ℕ → Speech → TapStart → Type 0
-IsTapSeat w spoken seat = (seat.berth ≡ w) × (seat.speech ≡ spoken)
+abbrev pub IsTapStart : ℕ → Speech → TapStart → Type 0
+IsTapStart w spoken seat = (seat.berth ≡ w) × (seat.speech ≡ spoken)
 
 -- each berth speaks as executors do exactly if it is an executor's
 abbrev pub SpeechesFit : Discipline → List Speech → Type 0
@@ -31,15 +31,15 @@ means_of seat = means_for seat.settings.now seat.actions.now seat.speech
 
 module _ {B : Type 0} (settings : Settings) (actions : List WorkAction) where
   -- the proxy lane of this berth, whose number is w, goes by this speech
-  abbrev pub IsProxySeat : ℕ → B → Speech → ProxyStart B → Type 0
-  IsProxySeat w berth spoken seat =
+  abbrev pub IsProxyStart : ℕ → B → Speech → ProxyStart B → Type 0
+  IsProxyStart w berth spoken seat =
       (seat.berth ≡ berth) × (seat.number ≡ w) × (means_of seat ≡ means_for settings actions spoken)
 
   -- for each of these berths, from the number w on, its proxy lane and then its tap lane
   abbrev pub AreSeats : ℕ → List B → List Speech → List (Either (ProxyStart B) TapStart) → Type 0
   AreSeats w [] [] lanes = lanes ≡ []
   AreSeats w (b ∷ bs) (s ∷ ss) (First x ∷ Second y ∷ lanes) =
-      IsProxySeat w b s x × IsTapSeat w s y × AreSeats (w + 1) bs ss lanes
+      IsProxyStart w b s x × IsTapStart w s y × AreSeats (w + 1) bs ss lanes
   AreSeats w _ _ _ = ⊥
 
   -- the two lanes of this berth stand behind those before
@@ -47,8 +47,8 @@ module _ {B : Type 0} (settings : Settings) (actions : List WorkAction) where
       (old new : List (Either (ProxyStart B) TapStart)) : Type 0 where
     pub proxy : ProxyStart B
     pub heard : TapStart
-    pub is_proxy : IsProxySeat w berth spoken proxy
-    pub is_tap : IsTapSeat w spoken heard
+    pub is_proxy : IsProxyStart w berth spoken proxy
+    pub is_tap : IsTapStart w spoken heard
     pub grown : new ≡ old ++ First proxy ∷ Second heard ∷ []
 
 -- the berths of these lanes, in order

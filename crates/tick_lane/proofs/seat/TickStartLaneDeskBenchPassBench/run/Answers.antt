@@ -2,7 +2,7 @@ use Rattle.std.proofs.Common.{ap}
 use Rattle.seat_desk.specs.Passes.{mine}
 use Rattle.proxy_words.specs.Ends.{may_halt}
 use Rattle.tick_lane.proofs.Counting.{owes_nothing}
-use Rattle.tick_lane.proofs.seat.TickSeatLaneDeskBenchPassBench.run.Goals as goal
+use Rattle.tick_lane.proofs.seat.TickStartLaneDeskBenchPassBench.run.Goals as goal
 
 pub halt-none-requires-clause-may : goal.halt-none-requires-clause-may
 halt-none-requires-clause-may g c =
