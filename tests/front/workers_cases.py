@@ -109,19 +109,6 @@ class Workers(Folder):
         self.put("B.kt", 'fun y(): Int = ""\n')
         self.assertIn("type mismatch", self.front("--keep=60", status=1))
 
-    def test_scalac_worker(self) -> None:
-        """A Scala program is compiled by the list that init writes, in two runs, and a mistake in it is reported."""
-        if shutil.which("java") is None or not os.path.isdir(os.environ.get("SCALA_HOME", "/usr/share/scala-2.11")):
-            self.skipTest("there is no scalac")
-        self.put("a/A.scala", "package a\nobject A { def x: Int = 1 }\n")
-        self.put("B.scala", "object B { def y: Int = a.A.x }\n")
-        self.assertIn("1 action for 2 sources", self.front("init", "scalac"))
-        self.assertIn("1 action made", self.front("--keep=60"))
-        with zipfile.ZipFile("out/program.jar") as jar:
-            self.assertEqual(sorted(jar.namelist()), ["B$.class", "B.class", "a/A$.class", "a/A.class"])
-        self.put("B.scala", 'object B { def y: Int = "" }\n')
-        self.assertIn("type mismatch", self.front("--keep=60", status=1))
-
     def test_a_python_function_in_a_list(self) -> None:
         """A function that ends by os._exit is called by one process for all actions."""
         self.put("lib/shout.py", "import os\ndef main(words):\n    open(words[1], 'w').write(open(words[0]).read().upper() + str(os.getpid()))\n    os._exit(0)\n")
@@ -140,7 +127,7 @@ class Workers(Folder):
         nothing = {**os.environ, "TSC": "/nix"}
         self.assertIn("init tsc: ", self.front("init", "tsc", status=2, env=nothing))
         self.assertIn("apt-get install node-typescript", self.front("init", "tsc", status=2, env=nothing))
-        self.assertIn("there is no list for that; there are tsc, eslint, scalac, kotlinc", self.front("init", "nix", "here", status=2))
+        self.assertIn("there is no list for that; there are tsc, eslint, kotlinc", self.front("init", "nix", "here", status=2))
         if shutil.which("node") is None:
             self.skipTest("there is no node")
         there = {**os.environ, "TSC": "/bin/sh"}

@@ -35,21 +35,21 @@ class Kind(NamedTuple):
     needs: dict[str, str] = LINES
 
 
-def home_of(tool: str) -> str:
-    """Returns the folder of a compiler of the JVM, which an environment variable may replace."""
-    return os.environ.get(*{"scalac": ("SCALA_HOME", "/usr/share/scala-2.11"), "kotlinc": ("KOTLIN_HOME", "/usr/share/kotlin/kotlinc")}[tool])
+def kotlin_home() -> str:
+    """Returns the folder of Kotlin's compiler, which an environment variable may replace."""
+    return os.environ.get("KOTLIN_HOME", "/usr/share/kotlin/kotlinc")
 
 
-def jvm_start(tool: str, *jars: str) -> list[str]:
-    """Returns the words that start the worker of a compiler of the JVM, with these jars of its folder."""
+def kotlinc_start() -> list[str]:
+    """Returns the words that start the worker of Kotlin's compiler."""
     java = shutil.which("java")
-    found = {it: sorted(glob.glob(os.path.join(home_of(tool), "lib", it))) for it in jars}
-    missing = "java" if java is None else next((os.path.join(home_of(tool), "lib", it) for it, paths in found.items() if not paths), "")
+    names = ("kotlin-compiler", "kotlin-stdlib", "kotlin-script-runtime", "kotlin-reflect", "trove4j", "annotations-13.0")
+    jars = [os.path.join(kotlin_home(), "lib", f"{it}.jar") for it in names]
+    missing = "java" if java is None else next((it for it in jars if not os.path.exists(it)), "")
     if java is None or missing:
         raise Unwanted(f"{missing} isn't there")
-    places = ":".join(path for paths in found.values() for path in paths)
-    return [java, "-XX:+UseSerialGC", "-XX:TieredStopAtLevel=1", "-Xss8m", "-Dkotlin.environment.keepalive=true", "-cp", places,
-            os.path.join(WORKERS, "JvmWorker.java"), tool]
+    return [java, "-XX:+UseSerialGC", "-XX:TieredStopAtLevel=1", "-Xss8m", "-Dkotlin.environment.keepalive=true", "-cp", ":".join(jars),
+            os.path.join(WORKERS, "JvmWorker.java"), "kotlinc"]
 
 
 def node_start(worker: str, name: str, place: str) -> list[str]:
@@ -67,14 +67,9 @@ def tsc_actions(sources: list[str], settings: list[str]) -> Iterator[tuple[str, 
     yield "tsc", words, [*sources, *settings], made
 
 
-def scalac_actions(sources: list[str], settings: list[str]) -> Iterator[tuple[str, list[str], list[str], list[str]]]:
-    """Yields one action: the whole program as one jar."""
-    yield "scalac", ["--jar=out/program.jar", "-usejavacp", *sources], [*sources, *settings], ["out/program.jar"]
-
-
 def kotlinc_actions(sources: list[str], settings: list[str]) -> Iterator[tuple[str, list[str], list[str], list[str]]]:
     """Yields one action: the whole program as one jar."""
-    words = ["--jar=out/program.jar", "-kotlin-home", home_of("kotlinc"), *sources]
+    words = ["--jar=out/program.jar", "-kotlin-home", kotlin_home(), *sources]
     yield "kotlinc", words, [*sources, *settings], ["out/program.jar"]
 
 
@@ -91,10 +86,7 @@ KINDS = {
     "eslint": Kind((".js",), (".eslintrc.json", ".eslintrc.js", ".eslintrc", "package.json"), "eslint",
                    lambda: node_start("eslint_worker.js", "ESLINT", "/usr/share/nodejs/eslint"),
                    {"PATH": "/usr/bin:/bin", "NODE_PATH": "/usr/share/nodejs", "HOME": "/nonexistent"}, eslint_actions),
-    "scalac": Kind((".scala",), (), "scala", lambda: jvm_start("scalac", "*.jar"), {"PATH": "/usr/bin:/bin"}, scalac_actions, NEEDS),
-    "kotlinc": Kind((".kt",), (), "kotlin",
-                    lambda: jvm_start("kotlinc", "kotlin-compiler.jar", "kotlin-stdlib.jar", "kotlin-script-runtime.jar", "kotlin-reflect.jar",
-                                      "trove4j.jar", "annotations-13.0.jar"), {"PATH": "/usr/bin:/bin"}, kotlinc_actions, NEEDS),
+    "kotlinc": Kind((".kt",), (), "kotlin", kotlinc_start, {"PATH": "/usr/bin:/bin"}, kotlinc_actions, NEEDS),
 }
 
 

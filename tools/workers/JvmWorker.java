@@ -10,9 +10,7 @@ import java.io.IOException;
 import java.io.InputStream;
 import java.io.OutputStream;
 import java.io.PrintStream;
-import java.lang.reflect.InvocationHandler;
 import java.lang.reflect.InvocationTargetException;
-import java.lang.reflect.Proxy;
 import java.nio.charset.StandardCharsets;
 import java.nio.file.Files;
 import java.nio.file.Path;
@@ -27,13 +25,12 @@ import java.util.zip.ZipEntry;
 import java.util.zip.ZipOutputStream;
 
 /**
- * A warm compiler of the JVM: scalac (2.11 to 2.13) or kotlinc. Java compiles this file when it starts it.
+ * A warm compiler of the JVM: kotlinc. Java compiles this file when it starts it.
  *
- * <p>usage: java -cp JARS JvmWorker.java TOOL --persistent_worker | .. TOOL WORD.. @FILE.. | .. TOOL --self-test WORD..
+ * <p>usage: java -cp JARS JvmWorker.java kotlinc --persistent_worker | .. kotlinc WORD.. @FILE.. | .. kotlinc --self-test WORD..
  *
- * <p>TOOL is scalac or kotlinc, and JARS has the compiler. A request has the compiler's own words; {@code --jar=PATH} in
- * front puts the classes into a jar whose bytes depend only on the classes. The worker speaks protobuf, and answers one
- * request at a time.
+ * <p>JARS has the compiler. A request has the compiler's own words; {@code --jar=PATH} in front puts the classes into a jar
+ * whose bytes depend only on the classes. The worker speaks protobuf, and answers one request at a time.
  */
 public final class JvmWorker {
   /** A compiler, called with a request's words and the stream for all that it prints. */
@@ -44,11 +41,11 @@ public final class JvmWorker {
   private JvmWorker() {}
 
   public static void main(String[] start) throws IOException {
-    if (start.length == 0 || !List.of("scalac", "kotlinc").contains(start[0])) {
-      System.err.println("usage: java -cp JARS JvmWorker.java scalac|kotlinc --persistent_worker | WORD.. @FILE.. | --self-test WORD..");
+    if (start.length == 0 || !start[0].equals("kotlinc")) {
+      System.err.println("usage: java -cp JARS JvmWorker.java kotlinc --persistent_worker | WORD.. @FILE.. | --self-test WORD..");
       System.exit(2);
     }
-    Tool tool = start[0].equals("kotlinc") ? JvmWorker::kotlinc : JvmWorker::scalac;
+    Tool tool = JvmWorker::kotlinc;
     List<String> words = new ArrayList<>();
     for (String word : Arrays.asList(start).subList(1, start.length)) {
       words.addAll(word.startsWith("@") ? Files.readAllLines(Path.of(word.substring(1))) : List.of(word));
@@ -56,47 +53,19 @@ public final class JvmWorker {
     if (words.contains("--persistent_worker")) {
       serve(tool);
     } else if (words.contains("--self-test")) {
-      selfTest(tool, start[0].equals("kotlinc") ? "a.kt" : "a.scala", words.subList(words.indexOf("--self-test") + 1, words.size()));
+      selfTest(tool, "a.kt", words.subList(words.indexOf("--self-test") + 1, words.size()));
     } else {
       System.exit(carryOut(tool, words, System.err) ? 0 : 1);
     }
   }
 
-  // The compilers. They are found by name, since the class path has only one of them.
+  // The compiler. It is found by name, since Java compiles this file without it.
 
   private static boolean kotlinc(String[] words, PrintStream print) throws ReflectiveOperationException {
     Class<?> compiler = Class.forName("org.jetbrains.kotlin.cli.jvm.K2JVMCompiler");
     Object made = compiler.getDeclaredConstructor().newInstance();
     Object code = compiler.getMethod("exec", PrintStream.class, String[].class).invoke(made, print, words);
     return (int) code.getClass().getMethod("getCode").invoke(code) == 0;
-  }
-
-  private static boolean scalac(String[] words, PrintStream print) throws ReflectiveOperationException {
-    Class<?> compiler = Class.forName("scala.tools.nsc.MainClass");
-    boolean[] good = {false};
-    printingTo("withOut", print, () -> printingTo("withErr", print, () -> {
-      Object made = compiler.getDeclaredConstructor().newInstance();
-      compiler.getMethod("process", String[].class).invoke(made, (Object) words);
-      Object reporter = compiler.getMethod("reporter").invoke(made);
-      good[0] = !(boolean) reporter.getClass().getMethod("hasErrors").invoke(reporter);
-    }));
-    return good[0];
-  }
-
-  private interface Act {
-    void run() throws ReflectiveOperationException;
-  }
-
-  /** Acts while one of Scala's two streams is this one. */
-  private static void printingTo(String method, PrintStream print, Act act) throws ReflectiveOperationException {
-    Class<?> function = Class.forName("scala.Function0");
-    InvocationHandler acts = (self, called, words) -> {
-      act.run();
-      return null;
-    };
-    Object body = Proxy.newProxyInstance(function.getClassLoader(), new Class<?>[] {function}, acts);
-    Object console = Class.forName("scala.Console$").getField("MODULE$").get(null);
-    console.getClass().getMethod(method, PrintStream.class, function).invoke(console, print, body);
   }
 
   // One request.
@@ -236,7 +205,7 @@ public final class JvmWorker {
     List<Boolean> good = new ArrayList<>();
     ByteArrayOutputStream said = new ByteArrayOutputStream();
     for (String text : List.of("\"x\"", "1")) {
-      Files.writeString(source, name.endsWith(".kt") ? "val a: Int = " + text + "\n" : "object A { def a: Int = " + text + " }\n");
+      Files.writeString(source, "val a: Int = " + text + "\n");
       List<String> words = new ArrayList<>(List.of("--jar=" + folder.resolve("a.jar")));
       words.addAll(before);
       Collections.addAll(words, source.toString());
