@@ -109,7 +109,7 @@ def processes(count: int) -> list[Row]:
     shell = {
         "`sh`, a loop": (f"i=0; while [ $i -le {last} ]; do /bin/cp in/0 out/$i; i=$((i + 1)); done", "sh"),
         "`xargs -P4`": (f"seq 0 {last} | xargs -P4 -I@ /bin/cp in/0 out/@", "xargs"),
-        "GNU parallel `-j4`": (f"seq 0 {last} | parallel -j4 /bin/cp in/0 out/@ -I@", "parallel"),
+        "GNU parallel `-j4`": (f"seq 0 {last} | parallel -j4 -I@ /bin/cp in/0 out/@", "parallel"),
     }
     rows = [Row(f"{name}, `/bin/cp`", ("/bin/sh", "-c", text), count, outputs=count, needs=(needed,)) for name, (text, needed) in shell.items()]
     rows += [Row(f"`make -j4`, {what}", ("make", "-s", "-j4", "-f", file, "all"), count, outputs=count)
