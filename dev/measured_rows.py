@@ -93,6 +93,8 @@ def floors(count: int) -> list[Row]:
     floor = os.path.abspath("floor")
     if shutil.which("rustc"):
         subprocess.run(["rustc", "-O", "--edition", "2021", "-o", floor, str(TOP / "dev/bench-floor.rs")], check=True)
+    for it in range(count):
+        write(f"flags/{it}", f"--out=out/{it}\n--in=in/0\n")  # the floor's own names for flag files
     shape = [floor, "fewest", program("demo_tool"), str(count), "1"]
     return [Row(f"floor of fewest calls, {name}", (*shape, *words), count, outputs=count, needs=("rustc",))
             for name, words in (("one worker", ("1", "one")), ("four workers", ("4", "one")),
