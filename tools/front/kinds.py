@@ -49,7 +49,7 @@ def kotlinc_start() -> list[str]:
     if java is None or missing:
         raise Unwanted(f"{missing} isn't there")
     return [java, "-XX:+UseSerialGC", "-XX:TieredStopAtLevel=1", "-Xss8m", "-Dkotlin.environment.keepalive=true", "-cp", ":".join(jars),
-            os.path.join(WORKERS, "JvmWorker.java"), "kotlinc"]
+            os.path.join(WORKERS, "KotlinWorker.java")]
 
 
 def node_start(worker: str, name: str, place: str) -> list[str]:

@@ -16,7 +16,6 @@ import java.nio.file.Files;
 import java.nio.file.Path;
 import java.time.LocalDateTime;
 import java.util.ArrayList;
-import java.util.Arrays;
 import java.util.Collections;
 import java.util.Comparator;
 import java.util.List;
@@ -25,43 +24,33 @@ import java.util.zip.ZipEntry;
 import java.util.zip.ZipOutputStream;
 
 /**
- * A warm compiler of the JVM: kotlinc. Java compiles this file when it starts it.
+ * A warm kotlinc. Java compiles this file when it starts it.
  *
- * <p>usage: java -cp JARS JvmWorker.java kotlinc --persistent_worker | .. kotlinc WORD.. @FILE.. | .. kotlinc --self-test WORD..
+ * <p>usage: java -cp JARS KotlinWorker.java --persistent_worker | .. WORD.. @FILE.. | .. --self-test WORD..
  *
  * <p>JARS has the compiler. A request has the compiler's own words; {@code --jar=PATH} in front puts the classes into a jar
  * whose bytes depend only on the classes. The worker speaks protobuf, and answers one request at a time.
  */
-public final class JvmWorker {
-  /** A compiler, called with a request's words and the stream for all that it prints. */
-  private interface Tool {
-    boolean compile(String[] words, PrintStream print) throws ReflectiveOperationException;
-  }
-
-  private JvmWorker() {}
+public final class KotlinWorker {
+  private KotlinWorker() {}
 
   public static void main(String[] start) throws IOException {
-    if (start.length == 0 || !start[0].equals("kotlinc")) {
-      System.err.println("usage: java -cp JARS JvmWorker.java kotlinc --persistent_worker | WORD.. @FILE.. | --self-test WORD..");
-      System.exit(2);
-    }
-    Tool tool = JvmWorker::kotlinc;
     List<String> words = new ArrayList<>();
-    for (String word : Arrays.asList(start).subList(1, start.length)) {
+    for (String word : start) {
       words.addAll(word.startsWith("@") ? Files.readAllLines(Path.of(word.substring(1))) : List.of(word));
     }
     if (words.contains("--persistent_worker")) {
-      serve(tool);
+      serve();
     } else if (words.contains("--self-test")) {
-      selfTest(tool, "a.kt", words.subList(words.indexOf("--self-test") + 1, words.size()));
+      selfTest(words.subList(words.indexOf("--self-test") + 1, words.size()));
     } else {
-      System.exit(carryOut(tool, words, System.err) ? 0 : 1);
+      System.exit(carryOut(words, System.err) ? 0 : 1);
     }
   }
 
   // The compiler. It is found by name, since Java compiles this file without it.
 
-  private static boolean kotlinc(String[] words, PrintStream print) throws ReflectiveOperationException {
+  private static boolean compile(String[] words, PrintStream print) throws ReflectiveOperationException {
     Class<?> compiler = Class.forName("org.jetbrains.kotlin.cli.jvm.K2JVMCompiler");
     Object made = compiler.getDeclaredConstructor().newInstance();
     Object code = compiler.getMethod("exec", PrintStream.class, String[].class).invoke(made, print, words);
@@ -71,7 +60,7 @@ public final class JvmWorker {
   // One request.
 
   /** Carries out a request. Returns whether it succeeded. */
-  private static boolean carryOut(Tool tool, List<String> words, PrintStream print) {
+  private static boolean carryOut(List<String> words, PrintStream print) {
     PrintStream out = System.out;
     PrintStream err = System.err;
     System.setOut(print);
@@ -84,7 +73,7 @@ public final class JvmWorker {
         folder = Files.createTempDirectory("classes");
         asked.addAll(List.of("-d", folder.toString()));
       }
-      boolean good = tool.compile(asked.toArray(new String[0]), print);
+      boolean good = compile(asked.toArray(new String[0]), print);
       if (good && jar != null) {
         writeJar(folder, new File(jar).getAbsoluteFile().toPath());
       }
@@ -135,7 +124,7 @@ public final class JvmWorker {
 
   // The worker protocol: each message is preceded by its length.
 
-  private static void serve(Tool tool) throws IOException {
+  private static void serve() throws IOException {
     OutputStream answers = new BufferedOutputStream(new FileOutputStream(FileDescriptor.out));
     System.setOut(System.err);
     InputStream in = new BufferedInputStream(System.in);
@@ -145,7 +134,7 @@ public final class JvmWorker {
         throw new EOFException("a message is cut");
       }
       ByteArrayOutputStream said = new ByteArrayOutputStream();
-      boolean good = carryOut(tool, wordsOf(message), new PrintStream(said, true, StandardCharsets.UTF_8));
+      boolean good = carryOut(wordsOf(message), new PrintStream(said, true, StandardCharsets.UTF_8));
       ByteArrayOutputStream body = new ByteArrayOutputStream();
       body.writeBytes(good ? new byte[] {} : new byte[] {8, 1});
       body.write(18);
@@ -199,9 +188,9 @@ public final class JvmWorker {
   }
 
   /** Compiles a source that is wrong, and then the same source mended, with these words in front. */
-  private static void selfTest(Tool tool, String name, List<String> before) throws IOException {
-    Path folder = Files.createTempDirectory("jvm_worker");
-    Path source = folder.resolve(name);
+  private static void selfTest(List<String> before) throws IOException {
+    Path folder = Files.createTempDirectory("kotlin_worker");
+    Path source = folder.resolve("a.kt");
     List<Boolean> good = new ArrayList<>();
     ByteArrayOutputStream said = new ByteArrayOutputStream();
     for (String text : List.of("\"x\"", "1")) {
@@ -209,7 +198,7 @@ public final class JvmWorker {
       List<String> words = new ArrayList<>(List.of("--jar=" + folder.resolve("a.jar")));
       words.addAll(before);
       Collections.addAll(words, source.toString());
-      good.add(carryOut(tool, words, new PrintStream(said, true, StandardCharsets.UTF_8)));
+      good.add(carryOut(words, new PrintStream(said, true, StandardCharsets.UTF_8)));
     }
     boolean made = Files.exists(folder.resolve("a.jar"));
     remove(folder);
