@@ -18,7 +18,7 @@ use Rattle.exec_journal.specs.declared.call.Found.TheVariants as found
 use Rattle.sandbox_rooms.specs.declared.gathering.Gathered.{Gathered}
 use Rattle.sandbox_rooms.specs.declared.gathering.Gathered.TheVariants as gathered
 use Rattle.sandbox_rooms.specs.Calls.{Asked, Whole, Stopped, Cut, Runs, Made}
-use Rattle.sandbox_rooms.specs.Rooms.{MakesLooks}
+use Rattle.sandbox_rooms.specs.Rooms.{GatherAsks, MakesGather}
 use Rattle.berth_acts.specs.declared.launching.Opened.{Opened}
 use Rattle.berth_acts.specs.declared.launching.Opened.TheVariants as opened
 
@@ -145,10 +145,10 @@ found_as (gathered.Missing k) = found.Missing k
 found_as gathered.RoomFault = found.RoomFault
 
 -- what is reported is what the looks gave
-abbrev pub ReportsLooks : List Asked → Result Found NoMemory → BerthTold → BerthTold → Type 0
+abbrev pub ReportsLooks : GatherAsks → Result Found NoMemory → BerthTold → BerthTold → Type 0
 ReportsLooks asks (Ok f) old new =
-    (g : Gathered) × (f ≡ found_as g) × MakesLooks asks (Ok g) old new
-ReportsLooks asks (Err e) old new = MakesLooks asks (Err e) old new
+    (g : Gathered) × (f ≡ found_as g) × MakesGather asks (Ok g) old new
+ReportsLooks asks (Err e) old new = MakesGather asks (Err e) old new
 
 -- a file for each output, or one of the outputs
 abbrev pub FoundFits : ℕ → Result Found NoMemory → Type 0

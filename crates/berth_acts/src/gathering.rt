@@ -1,5 +1,5 @@
 ghost use Rattle.std.specs.Prelude.{◌<◌, ◌^◌, length};
-ghost use Rattle.sandbox_rooms.specs.Rooms.{gather_asks};
+ghost use Rattle.sandbox_rooms.specs.Rooms.{gathering};
 ghost use Rattle.berth_acts.specs.Acts.{ReportsLooks, FoundFits};
 
 use exec_journal::Found;
@@ -8,7 +8,8 @@ use plain_values::{NoMemory, Text};
 use sandbox_rooms::{Gathered, Room, gather};
 use std::alloc::Global;
 
-/// Looks at the outputs, for a Gather on a local line whose answer has exit code 0.
+/// Looks at the outputs, for a Gather on a local line whose answer has exit code 0. If all are found and the request
+/// has a separate folder, the function then clears that folder.
 ///
 /// # Errors
 ///
@@ -20,7 +21,7 @@ pub fn gather_line<B: Berth>(
     outputs: &[Text],
 ) -> Result<Found, NoMemory>
     requires { length outputs.now < 2 ^ 32 }
-    ensures looks { ReportsLooks (gather_asks room outputs.now) result
+    ensures looks { ReportsLooks (gathering room outputs.now) result
         (B.told berth.old) (B.told berth.new) }
     ensures fits { FoundFits (length outputs.now) result }
 {

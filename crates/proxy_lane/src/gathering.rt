@@ -1,6 +1,6 @@
 //! A proxy lane's work for a Gather.
 ghost use Rattle.std.specs.Prelude.{◌≡◌, ◌<◌, ◌^◌, IfOk, OnErr, length};
-ghost use Rattle.sandbox_rooms.specs.Rooms.{gather_asks};
+ghost use Rattle.sandbox_rooms.specs.Rooms.{gathering};
 ghost use Rattle.berth_acts.specs.Acts.{ReportsLooks, FoundFits};
 ghost use Rattle.proxy_calls.specs.declared.asking.Order.TheVariants as order;
 ghost use Rattle.proxy_laws.specs.Steps.{OwesClaim, files_in, HasFiles};
@@ -124,11 +124,11 @@ impl<'a, B: Berth, P: Place, C: Rules, R: Wait> ProxyLane<'a, Bench<B, P, C>, B,
 }
 
 impl<B: Berth> Hands<B> {
-    // Looks at the outputs in the room.
+    // Looks at the outputs in the room, and clears the request's folder if all are found.
     fn gather(&mut self, alloc: Global, room: Room, outputs: &[Text]) -> Result<Found, NoMemory>
         requires { length outputs.now < 2 ^ 32 }
         ensures hands { self.new ≡ with_berth self.new.berth self.old }
-        ensures looks { ReportsLooks (gather_asks room outputs.now) result
+        ensures looks { ReportsLooks (gathering room outputs.now) result
             self.old.berth self.new.berth }
         ensures fits { FoundFits (length outputs.now) result }
     {

@@ -1,5 +1,5 @@
 -- What is done outside for a Send, a Cancel and a Gather.
-use Rattle.std.proofs.Common.{◌≡◌, inl, inr, ℕ, ℤ, Bool, true, false, cond, List, [], ◌∷◌, ◌++◌, length, Option, Some, None, Result, refl, ap, sym, subst, ◌∙◌, arith, ◌&&◌, ◌<◌, pos, eq-eqb, lt-ltb}
+use Rattle.std.proofs.Common.{◌≡◌, inl, inr, ℕ, ℤ, Bool, true, false, cond, List, [], ◌∷◌, ◌++◌, length, Option, Some, None, Result, refl, ap, sym, subst, ◌∙◌, arith, ◌&&◌, ◌<◌, pos, eq-eqb, lt-ltb, append-nil}
 use Rattle.run_plan.specs.Groups.{is_remote}
 use Rattle.std.specs.Ordering.{int_eq}
 use Rattle.std.proofs.lemmas.Cmp.{int_eq_equiv}
@@ -33,8 +33,9 @@ use Rattle.remote_messages.specs.declared.file.NamedFile.{NamedFile}
 use Rattle.remote_messages.specs.declared.work.WorkAction.{WorkAction}
 use Rattle.sandbox_rooms.specs.declared.gathering.Gathered.{Gathered}
 use Rattle.sandbox_rooms.specs.declared.gathering.Gathered.TheVariants as gathered
-use Rattle.sandbox_rooms.specs.Calls.{Asked, Made}
-use Rattle.sandbox_rooms.specs.Rooms.{MakesLooks}
+use Rattle.outside.specs.declared.berth.BerthCall.{BerthCall}
+use Rattle.sandbox_rooms.specs.Calls.{Asked, Cut, Runs, Made}
+use Rattle.sandbox_rooms.specs.Rooms.{MakesGather}
 use Rattle.sandbox_rooms.proofs.Runs.{made_none}
 use Rattle.request_frames.specs.declared.frames.Due.{Due}
 use Rattle.request_frames.specs.declared.frames.Due.TheVariants as due
@@ -211,34 +212,34 @@ module _ (means : Means) (t : Attempt) (rule : History → ℕ → Call → Repl
 
   -- the room was looked at
   looked_so : (g : Gathered) (old new : BerthTold) → speaks_remote means.speech ≡ false
-      → MakesLooks (look_asks means t n action) (Result.Ok g) old new
+      → MakesGather (look_asks means t n action) (Result.Ok g) old new
       → GatherActs means t rule lane line n action (Result.Ok (found_as g)) seen old new
   looked_so (gathered.Files fs) old new room x = record {
-    deed = record { line = 0; looks = []; calls = x.0; given = [] };
+    deed = record { line = 0; looks = []; calls = x.0 ++ x.1; given = [] };
     nothing_given = refl;
     done = subst (λ (r : Bool). FoundIn r (look_asks means t n action) (length action.outputs) line n
-        (found_as (gathered.Files fs)) (record { line = 0; looks = []; calls = x.0; given = [] })) (sym room)
-        (refl, ((gathered.Files fs), refl, x.1, x.2));
+        (found_as (gathered.Files fs)) (record { line = 0; looks = []; calls = x.0 ++ x.1; given = [] })) (sym room)
+        (refl, ((gathered.Files fs), x.0, x.1, refl, refl, x.2, x.3, x.4));
     told = tt;
-    berth = x.3;
+    berth = x.5;
   }
   looked_so (gathered.Missing k) old new room x = record {
-    deed = record { line = 0; looks = []; calls = x.0; given = [] };
+    deed = record { line = 0; looks = []; calls = x.0 ++ x.1; given = [] };
     nothing_given = refl;
     done = subst (λ (r : Bool). FoundIn r (look_asks means t n action) (length action.outputs) line n
-        (found_as (gathered.Missing k)) (record { line = 0; looks = []; calls = x.0; given = [] })) (sym room)
-        (refl, ((gathered.Missing k), refl, x.1, x.2));
+        (found_as (gathered.Missing k)) (record { line = 0; looks = []; calls = x.0 ++ x.1; given = [] })) (sym room)
+        (refl, ((gathered.Missing k), x.0, x.1, refl, refl, x.2, x.3, x.4));
     told = tt;
-    berth = x.3;
+    berth = x.5;
   }
   looked_so gathered.RoomFault old new room x = record {
-    deed = record { line = 0; looks = []; calls = x.0; given = [] };
+    deed = record { line = 0; looks = []; calls = x.0 ++ x.1; given = [] };
     nothing_given = refl;
     done = subst (λ (r : Bool). FoundIn r (look_asks means t n action) (length action.outputs) line n
-        (found_as gathered.RoomFault) (record { line = 0; looks = []; calls = x.0; given = [] })) (sym room)
-        (refl, (gathered.RoomFault, refl, x.1, x.2));
+        (found_as gathered.RoomFault) (record { line = 0; looks = []; calls = x.0 ++ x.1; given = [] })) (sym room)
+        (refl, (gathered.RoomFault, x.0, x.1, refl, refl, x.2, x.3, x.4));
     told = tt;
-    berth = x.3;
+    berth = x.5;
   }
 
   pub gather_looked : (result : Result Found NoMemory) (old new : BerthTold)
@@ -248,11 +249,12 @@ module _ (means : Means) (t : Attempt) (rule : History → ℕ → Call → Repl
       subst (λ (y : Found). GatherActs means t rule lane line n action (Result.Ok y) seen old new) (sym x.1)
       (looked_so x.0 old new room x.2)
   gather_looked (Result.Err e) old new room x = record {
-    deed = record { line = 0; looks = []; calls = x.0; given = [] };
+    deed = record { line = 0; looks = []; calls = x.0 ++ x.1; given = [] };
     nothing_given = refl;
-    done = inr x.1;
+    done = inr (inl (subst (λ (cs : List BerthCall). Runs Cut (look_asks means t n action).looks cs)
+        (sym (ap (λ (last : List BerthCall). x.0 ++ last) x.4 ∙ append-nil x.0)) x.2));
     told = tt;
-    berth = x.3;
+    berth = x.5;
   }
 
 -- ---- what may be reported

@@ -18,8 +18,8 @@ use Rattle.exec_journal.specs.declared.reply.Reply.TheVariants as reply
 use Rattle.remote_messages.specs.declared.work.WorkAction.{WorkAction}
 use Rattle.sandbox_rooms.specs.declared.gathering.Gathered.{Gathered}
 use Rattle.sandbox_rooms.specs.declared.gathering.Gathered.TheVariants as gathered
-use Rattle.sandbox_rooms.specs.Calls.{Asked, Whole, Cut, Runs, Made, went_well, GoesOn}
-use Rattle.sandbox_rooms.specs.Rooms.{gather_end}
+use Rattle.sandbox_rooms.specs.Calls.{Runs, Made}
+use Rattle.sandbox_rooms.specs.Rooms.{GatherAsks, gather_end, Leaves}
 use Rattle.berth_acts.specs.Acts.{found_as}
 use Rattle.core_contract.specs.Discipline.{Discipline}
 use Rattle.core_contract.specs.Ruled.{answer_after}
@@ -28,7 +28,7 @@ use Rattle.core_contract.specs.Duties.{Duty, Gathers, duty_of}
 use Rattle.run_values.specs.Settings.{Means, speaks_remote}
 use Rattle.proxy_words.specs.declared.halt.ProxyHalt.{ProxyHalt}
 use Rattle.proxy_words.specs.declared.halt.ProxyHalt.TheVariants as cause
-use Rattle.proxy_words.specs.Deeds.{Deed, DeedOf, IsCut, FoundIn, look_asks}
+use Rattle.proxy_words.specs.Deeds.{Deed, DeedOf, IsCut, CutBy, FoundIn, look_asks}
 use Rattle.proxy_words.specs.Lines.{unsaid_by}
 use Rattle.proxy_words.specs.Ends.{HaltsBy, may_halt}
 use Rattle.proxy_words.proofs.Growing.{are_told_later, adds_none}
@@ -43,27 +43,19 @@ use Rattle.proxy_laws.proofs.Sends.{starts_later}
 
 -- ---- looks that all found their outputs
 
-by_test : {A B : Type 0} (b : Bool) (log : List BerthCall) → (A → B) → GoesOn Whole b log A
-    → GoesOn Cut b log B
-by_test true log f x = f x
-by_test false log f x = absurd x
+files_cut : (asks : GatherAsks) (fs : List (List ℕ)) (g : Gathered) (calls looks last : List BerthCall)
+    → found.Files fs ≡ found_as g → calls ≡ looks ++ last → Runs (gather_end (Result.Ok g)) asks.looks looks
+    → Leaves asks.leaves (Result.Ok g) last → CutBy asks calls
+files_cut asks fs (gathered.Files gs) calls looks last is split r left = inr (looks, last, split, r, left)
+files_cut asks fs (gathered.Missing k) calls looks last is split r left = absurd (cc)
+files_cut asks fs gathered.RoomFault calls looks last is split r left = absurd (cc)
 
-whole_cut : (asks : List Asked) (calls : List BerthCall) → Runs Whole asks calls → Runs Cut asks calls
-whole_cut asks [] r = tt
-whole_cut [] (c ∷ log) r = absurd r
-whole_cut (a ∷ asks) (c ∷ log) r = (r.0, by_test (went_well c) log (whole_cut asks log) r.1)
-
-files_cut : (asks : List Asked) (fs : List (List ℕ)) (g : Gathered) (calls : List BerthCall)
-    → found.Files fs ≡ found_as g → Runs (gather_end (Result.Ok g)) asks calls → Runs Cut asks calls
-files_cut asks fs (gathered.Files gs) calls is r = whole_cut asks calls r
-files_cut asks fs (gathered.Missing k) calls is r = absurd (cc)
-files_cut asks fs gathered.RoomFault calls is r = absurd (cc)
-
-found_cut : (remote : Bool) (asks : List Asked) (outputs l : ℕ) (n : ℤ) (fs : List (List ℕ)) (d : Deed)
+found_cut : (remote : Bool) (asks : GatherAsks) (outputs l : ℕ) (n : ℤ) (fs : List (List ℕ)) (d : Deed)
     → FoundIn remote asks outputs l n (found.Files fs) d
-    → (d.calls ≡ []) ⊎ Runs Cut asks d.calls
+    → (d.calls ≡ []) ⊎ CutBy asks d.calls
 found_cut true asks outputs l n fs d x = inl x.0
-found_cut false asks outputs l n fs d x = inr (files_cut asks fs x.1.0 d.calls x.1.1 x.1.2)
+found_cut false asks outputs l n fs d x =
+    inr (files_cut asks fs x.1.0 d.calls x.1.1 x.1.2 x.1.3 x.1.4 x.1.5 x.1.7)
 
 module _ {M G Q : Type 0} {g : Ghosts M Call Reply G Q} (means : Means)
     (rules : Q → Discipline) (p p1 p2 : Pass M Call Reply G Q g) (h : LaneObjects) (l : ℕ)
@@ -147,7 +139,7 @@ module _ {M G Q : Type 0} {g : Ghosts M Call Reply G Q} (means : Means)
 
   -- ---- no memory
 
-  cut : (d : Deed) → d.given ≡ [] → (d.calls ≡ []) ⊎ Runs Cut (look_asks means t n action) d.calls
+  cut : (d : Deed) → d.given ≡ [] → (d.calls ≡ []) ⊎ CutBy (look_asks means t n action) d.calls
       → HaltsBy means cause.NoMemory (duty_of (mine p)) d
   cut d nothing x = subst (λ (s : Duty). IsCut means s d) (sym duty)
       (nothing, ⊎_elim (λ is. inl is) (λ runs. inr (action, of_action, runs)) x)

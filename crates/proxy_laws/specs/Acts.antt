@@ -18,7 +18,7 @@ use Rattle.request_frames.specs.Frames.{cancel_due}
 use Rattle.berth_acts.specs.Acts.{GivenBy, Gave, RoomFailed, FeedFailed}
 use Rattle.core_contract.specs.Moves.{History}
 use Rattle.run_values.specs.Settings.{Means, speaks_remote}
-use Rattle.proxy_words.specs.Deeds.{Deed, AreInputs, looks_of, looks_from, lacks, SentAs, FoundIn, send_asks, due_for, look_asks}
+use Rattle.proxy_words.specs.Deeds.{Deed, AreInputs, looks_of, looks_from, lacks, SentAs, FoundIn, CutBy, send_asks, due_for, look_asks}
 use Rattle.proxy_words.specs.Told.{AreTold}
 
 -- what was called and given, by what is reported; where memory ran out, nothing failed
@@ -76,7 +76,7 @@ abbrev pub GatherDone : Means → Attempt → ℕ → ℤ → WorkAction → Res
 GatherDone means t l n action (Ok f) d =
     FoundIn (speaks_remote means.speech) (look_asks means t n action) (length action.outputs) l n f d
 GatherDone means t l n action (Err e) d =
-    (d.calls ≡ []) ⊎ Runs Cut (look_asks means t n action) d.calls
+    (d.calls ≡ []) ⊎ CutBy (look_asks means t n action) d.calls
 
 pub record GatherActs (means : Means) (t : Attempt) (rule : History → ℕ → Call → Reply) (lane : ℕ) (line : ℕ) (n : ℤ)
     (action : WorkAction) (result : Result Found NoMemory) (seen : History) (old new : BerthTold)

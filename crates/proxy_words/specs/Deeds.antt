@@ -1,5 +1,5 @@
 -- What a proxy lane has done for each of its entries.
-use Rattle.std.specs.Prelude.{◌≡◌, ◌⊎◌, ℕ, ◌+◌, ◌==◌, ℤ, List, [], ◌∷◌, ◌++◌, length, slice_get, if◌then◌else◌, Bool, true, false, Option, Some, None, Ok}
+use Rattle.std.specs.Prelude.{◌≡◌, ◌⊎◌, ℕ, ◌+◌, ◌==◌, ℤ, List, [], ◌∷◌, ◌++◌, length, map, slice_get, if◌then◌else◌, Bool, true, false, Option, Some, None, Ok}
 use Rattle.plain_values.specs.declared.command.Command.{Command}
 use Rattle.exec_journal.specs.declared.attempt.Attempt.{Attempt}
 use Rattle.exec_journal.specs.Seated.{kind_for}
@@ -22,8 +22,8 @@ use Rattle.remote_messages.specs.declared.work.Origin.{Origin}
 use Rattle.remote_messages.specs.declared.work.Origin.TheVariants as origin
 use Rattle.sandbox_rooms.specs.declared.gathering.Gathered.{Gathered}
 use Rattle.sandbox_rooms.specs.declared.room.Room.{Room}
-use Rattle.sandbox_rooms.specs.Calls.{Asked, Cut, Runs}
-use Rattle.sandbox_rooms.specs.Rooms.{prepare_asks, gather_asks, gathered_in, gather_end}
+use Rattle.sandbox_rooms.specs.Calls.{Asked, asked, Whole, Cut, Runs}
+use Rattle.sandbox_rooms.specs.Rooms.{prepare_asks, GatherAsks, gathering, gathered_in, gather_end, Leaves}
 use Rattle.remote_branch.specs.Jobs.{job_for}
 use Rattle.request_frames.specs.declared.frames.Due.{Due}
 use Rattle.request_frames.specs.declared.frames.Due.TheVariants as due
@@ -92,15 +92,23 @@ SentAs asks (due.Frame frame) how calls given = SentBy asks frame how calls give
 SentAs asks due.TooLarge write.TooLarge calls given = (calls ≡ []) × (given ≡ [])
 SentAs asks due.TooLarge how calls given = ⊥
 
--- what is reported is what the looks in the room gave
-abbrev pub FoundBy : List Asked → Found → List BerthCall → Type 0
+-- What is reported is what the looks in the room gave. Behind looks that found all, the folder of a
+-- request of its own is removed.
+abbrev pub FoundBy : GatherAsks → Found → List BerthCall → Type 0
 FoundBy asks f calls =
-    (g : Gathered) × (f ≡ found_as g) × Runs (gather_end (Ok g)) asks calls
-    × (g ≡ gathered_in calls)
+    (g : Gathered) × (looks : List BerthCall) × (last : List BerthCall)
+    × (f ≡ found_as g) × (calls ≡ looks ++ last) × Runs (gather_end (Ok g)) asks.looks looks
+    × (g ≡ gathered_in looks) × Leaves asks.leaves (Ok g) last
+
+-- Memory ran out at a look, or behind all that was called.
+abbrev pub CutBy : GatherAsks → List BerthCall → Type 0
+CutBy asks calls = Runs Cut asks.looks calls
+    ⊎ ((looks : List BerthCall) × (last : List BerthCall) × (calls ≡ looks ++ last)
+    × Runs Whole asks.looks looks × (map asked last ≡ asks.leaves))
 
 -- A local answer's outputs are looked at in the room, those of an executor's answer are in it. The
 -- first that isn't there is missing.
-abbrev pub FoundIn : Bool → List Asked → ℕ → ℕ → ℤ → Found → Deed → Type 0
+abbrev pub FoundIn : Bool → GatherAsks → ℕ → ℕ → ℤ → Found → Deed → Type 0
 FoundIn remote asks outputs l n (found.Exit x) d = IsNothing d
 FoundIn remote asks outputs l n found.Refused d = IsNothing d
 FoundIn true asks outputs l n (found.Files fs) d =
@@ -126,8 +134,8 @@ module _ (means : Means) (t : Attempt) where
       send_due means.speech (request_for n action inputs means.settings.verbose (room_at n))
       (job_for n action inputs)
 
-  abbrev pub look_asks : ℤ → WorkAction → List Asked
-  look_asks n action = gather_asks (room_at n) action.outputs
+  abbrev pub look_asks : ℤ → WorkAction → GatherAsks
+  look_asks n action = gathering (room_at n) action.outputs
 
   -- ---- what was done for a report
 
@@ -168,7 +176,7 @@ module _ (means : Means) (t : Attempt) where
   abbrev pub IsCutGather : ℤ → List BerthCall → Type 0
   IsCutGather n calls = (calls ≡ [])
       ⊎ ((action : WorkAction) × (slice_get means.actions t.action ≡ Some action)
-      × Runs Cut (look_asks n action) calls)
+      × CutBy (look_asks n action) calls)
 
 module _ (means : Means) where
   abbrev pub IsCancel : ℕ → ℤ → Written → Deed → Type 0

@@ -13,7 +13,7 @@ use Rattle.sandbox_rooms.specs.declared.room.Room.{Room}
 use Rattle.sandbox_rooms.specs.declared.room.Room.TheVariants as room
 use Rattle.sandbox_rooms.specs.declared.gathering.Gathered.{Gathered}
 use Rattle.sandbox_rooms.specs.declared.gathering.Gathered.TheVariants as gathered
-use Rattle.sandbox_rooms.specs.Calls.{Asked, Clear, Folder, Put, Get, RunEnd, Whole, Stopped, Cut, Runs, Made}
+use Rattle.sandbox_rooms.specs.Calls.{Asked, asked, Clear, Folder, Put, Get, RunEnd, Whole, Stopped, Cut, Runs, Made}
 
 -- the folder of a request of its own
 abbrev pub part_of : ℤ → List ℕ
@@ -94,6 +94,35 @@ abbrev pub MakesLooks : List Asked → Result Gathered NoMemory → BerthTold �
 MakesLooks asks result old new =
     (calls : List BerthCall) × Runs (gather_end result) asks calls × Gives result calls
     × Made calls (IsRoomFault result) old new
+
+-- Behind them the folder of a request of its own is removed.
+abbrev pub leave_asks : Room → List Asked
+leave_asks room.Whole = []
+leave_asks room.Shared = []
+leave_asks (room.Part number) = Clear (part_of number) ∷ []
+
+-- the calls for an answer: the looks, and those behind looks that found all
+pub record GatherAsks : Type 0 where
+  pub looks : List Asked
+  pub leaves : List Asked
+
+abbrev pub gathering : Room → List (List ℕ) → GatherAsks
+gathering room outputs = record { looks = gather_asks room outputs; leaves = leave_asks room }
+
+-- Where all outputs were found, these calls were made, well or not. Else none was.
+abbrev pub Leaves : List Asked → Result Gathered NoMemory → List BerthCall → Type 0
+Leaves asks (Ok (gathered.Files files)) calls = map asked calls ≡ asks
+Leaves asks (Ok (gathered.Missing k)) calls = calls ≡ []
+Leaves asks (Ok gathered.RoomFault) calls = calls ≡ []
+Leaves asks (Err e) calls = calls ≡ []
+
+-- The outputs were looked at, up to the first that wasn't found, the answer says what was found,
+-- and the folder was left.
+abbrev pub MakesGather : GatherAsks → Result Gathered NoMemory → BerthTold → BerthTold → Type 0
+MakesGather asks result old new =
+    (looks : List BerthCall) × (last : List BerthCall)
+    × Runs (gather_end result) asks.looks looks × Gives result looks
+    × Leaves asks.leaves result last × Made (looks ++ last) (IsRoomFault result) old new
 
 -- There is a file for each output, or an output is named that there is.
 abbrev pub FitsOutputs : ℕ → Result Gathered NoMemory → Type 0

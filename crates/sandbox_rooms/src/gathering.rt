@@ -2,7 +2,7 @@ ghost use Rattle.std.specs.Prelude.{◌≡◌, ◌<◌, ◌^◌, ◌∷◌, [], 
 ghost use Rattle.outside.specs.declared.answers.Read.TheVariants as read;
 ghost use Rattle.outside.specs.declared.berth.BerthCall.TheVariants as call;
 ghost use Rattle.sandbox_rooms.specs.Calls.{Made};
-ghost use Rattle.sandbox_rooms.specs.Rooms.{in_room, gather_asks, MakesLooks, FitsOutputs};
+ghost use Rattle.sandbox_rooms.specs.Rooms.{in_room, gather_asks, gathering, MakesGather, MakesLooks, FitsOutputs};
 
 use crate::room::{Room, path_in};
 use outside::{Berth, Read};
@@ -20,12 +20,42 @@ pub enum Gathered {
     RoomFault,
 }
 
-/// Looks at the outputs in the room, one after another, up to the first that isn't found.
+/// Looks at the outputs in the room, one after another, up to the first that isn't found. If all are found and the
+/// request has a separate folder, the function then clears that folder. Its failure isn't reported: the outputs are
+/// found. If an output isn't found, the folder stays, so that a user can look at it.
 ///
 /// # Errors
 ///
-/// Returns `NoMemory` if memory runs out. All looks before found their outputs.
+/// Returns `NoMemory` if memory runs out. All looks before found their outputs, and the folder stays.
 pub fn gather<B: Berth>(
+    alloc: Global,
+    berth: &mut B,
+    room: Room,
+    outputs: &[Text],
+) -> Result<Gathered, NoMemory>
+    requires { length outputs.now < 2 ^ 32 }
+    ensures calls { MakesGather (gathering room outputs.now) result
+        (B.told berth.old) (B.told berth.new) }
+    ensures fits { FitsOutputs (length outputs.now) result }
+{
+    match room {
+        Room::Whole | Room::Shared => look(alloc, berth, room, outputs),
+        Room::Part { number } => {
+            let part = format!(in alloc; "__sandbox/{number}")?;
+            match look(alloc, berth, room, outputs)? {
+                Gathered::Files(files) => {
+                    let _ = berth.room_clear(part.as_str());
+                    Ok(Gathered::Files(files))
+                }
+                Gathered::Missing(output) => Ok(Gathered::Missing(output)),
+                Gathered::RoomFault => Ok(Gathered::RoomFault),
+            }
+        }
+    }
+}
+
+// Looks at the outputs, up to the first that isn't found.
+fn look<B: Berth>(
     alloc: Global,
     berth: &mut B,
     room: Room,

@@ -3,8 +3,7 @@ use Rattle.std.proofs.Common.{w32, to_z, of_z, ℕ, ℤ, Bool, true, false, List
 use Rattle.std.proofs.Math.Facts.{to_z-of_z}
 use Rattle.exec_journal.specs.declared.call.Found.TheVariants as found
 use Rattle.sandbox_rooms.specs.declared.room.Room.{Room}
-use Rattle.sandbox_rooms.specs.Calls.{Asked}
-use Rattle.sandbox_rooms.specs.Rooms.{gather_asks}
+use Rattle.sandbox_rooms.specs.Rooms.{GatherAsks, gathering}
 use Rattle.sandbox_rooms.proofs.Runs.{made_none}
 use Rattle.berth_acts.specs.Acts.{ReportsLooks}
 use Rattle.run_values.specs.Settings.{speaks_remote}
@@ -18,13 +17,13 @@ use Rattle.proxy_lane.proofs.Siting.{same_hands}
 use Rattle.proxy_lane.specs.Sites.{means_at}
 use Rattle.proxy_lane.proofs.gathering.ProxyLane+Bench+B+P+C+B+R.act_gather.Goals as goal
 
-exit_in : (r : Bool) (asks : List Asked) (outputs l : ℕ) (n x : ℤ)
+exit_in : (r : Bool) (asks : GatherAsks) (outputs l : ℕ) (n x : ℤ)
     → FoundIn r asks outputs l n (found.Exit x)
     (record { line = 0; looks = []; calls = []; given = [] })
 exit_in true asks outputs l n x = (refl, refl, refl)
 exit_in false asks outputs l n x = (refl, refl, refl)
 
-refused_in : (r : Bool) (asks : List Asked) (outputs l : ℕ) (n : ℤ)
+refused_in : (r : Bool) (asks : GatherAsks) (outputs l : ℕ) (n : ℤ)
     → FoundIn r asks outputs l n found.Refused
     (record { line = 0; looks = []; calls = []; given = [] })
 refused_in true asks outputs l n = (refl, refl, refl)
@@ -85,6 +84,6 @@ returns-clause-acts g c =
     ∙ (λ i. room_for (c.kind_of-kind.ensures i) (to_z-of_z fits i)) in
     gather_looked means t (answer_after (g.C.Rules.discipline (basis p))) p.lane c.args.answer.now.line c.args.answer.now.number work (seen p)
     c.gather.result old new (sym c.is_executor.ensures ∙ c.if-is_executor.false)
-    (subst (λ (r : Room). ReportsLooks (gather_asks r work.outputs) c.gather.result old new) room
-    (subst (λ xs. ReportsLooks (gather_asks c.room_of-room.result xs) c.gather.result old new)
+    (subst (λ (r : Room). ReportsLooks (gathering r work.outputs) c.gather.result old new) room
+    (subst (λ xs. ReportsLooks (gathering c.room_of-room.result xs) c.gather.result old new)
     c.as_slice.ensures c.gather.ensures.looks))

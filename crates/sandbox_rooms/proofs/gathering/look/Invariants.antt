@@ -1,6 +1,6 @@
 use Rattle.std.proofs.Common.{◌≡◌, ◌≤◌, take, length, vec_capacity}
 use Rattle.sandbox_rooms.proofs.Gathers.{Found}
-use Rattle.sandbox_rooms.proofs.gathering.gather.Given as goal
+use Rattle.sandbox_rooms.proofs.gathering.look.Given as goal
 
 abbrev pub invariant-loop-k : goal.invariant-loop-k
 invariant-loop-k g l = record {
