@@ -1,9 +1,11 @@
 -- The plan of a list whose groups have no berths of their own is sound, and the executor has few.
-use Rattle.std.proofs.Common.{◌≡◌, ℕ, zero, suc, ◌+◌, ◌^◌, ◌<◌, ◌≤◌, ◌==◌, nat_lt, Bool, true, false, ◌&&◌, not, cond, List, [], ◌∷◌, ◌++◌, length, map, min, Option, Some, None, option_map, unwrap_or, refl, ap, sym, subst, ◌∙◌, arith, append-nil}
-use Rattle.std.specs.Prelude.{slice_get, sum_by}
+use Rattle.std.proofs.Common.{◌≡◌, ℕ, suc, ◌^◌, ◌==◌, nat_lt, true, false, ◌&&◌, ◌||◌, not, cond, List, [], ◌∷◌, length, map, min, Option, Some, None, refl, ap, sym, ◌∙◌, arith}
+use Rattle.std.specs.Prelude.{sum_by}
 use Rattle.std.specs.List.{list_all}
-use Rattle.std.proofs.lemmas.Bool.{eqb-true}
+use Rattle.std.proofs.lemmas.Bool.{and_from, eqb-true}
+use Rattle.std.proofs.lemmas.Bool.Decides.{nat_tests}
 use Rattle.std.proofs.lemmas.List.{length-map}
+use Rattle.std.proofs.lemmas.List.Folds.{list_all-append}
 use Rattle.std.proofs.lemmas.List.Sums.{sum_by-append, sum_by-cons}
 use Rattle.exec_journal.proofs.Ruled.{by_bool}
 use Rattle.run_plan.specs.declared.plan.Group.{Group}
@@ -16,13 +18,11 @@ use Rattle.worker_key.specs.declared.key.Mode.{Mode}
 use Rattle.worker_key.specs.declared.key.Mode.TheVariants as mode
 use Rattle.list_actions.specs.declared.types.ListAction.{ListAction}
 use Rattle.action_list.specs.Keys.{keys_of, mode_of}
-use Rattle.action_list.specs.Plans.{executor_groups, first_user, group_by, groups_of, key_group, kind_by, local_key, plan_of, remote_users, share, users}
-use Rattle.shared_tasks.specs.Tasks.{without_berths}
+use Rattle.action_list.specs.Plans.{executor_groups, first_user, group_by, key_group, kind_by, local_key, plan_of, remote_users, users}
+use Rattle.shared_tasks.specs.Tasks.{bare, without_berths}
+use Rattle.shared_tasks.proofs.Pooled.{is_berthed}
 
 -- ---- without berths
-
-abbrev pub bare : Plan → Plan
-bare p = record { actions = p.actions; groups = map without_berths p.groups; limit = p.limit }
 
 same_actions : (p : Plan) (a : ℕ) (xs : List PlanAction)
     → are_sound_from (bare p) a xs ≡ are_sound_from p a xs
@@ -73,7 +73,7 @@ group_kind None n = refl
 group_kind (Some x) n = kinds_by (mode_of x)
 
 module _ (xs : List ListAction) (held : List (Option (List ℕ))) where
-  none_of_keys : (keys : List (List ℕ))
+  pub none_of_keys : (keys : List (List ℕ))
       → sum_by (λ (g : Group). g.berths) (map (key_group xs held 0) keys) ≡ 0
   none_of_keys [] = refl
   none_of_keys (key ∷ keys) =
@@ -84,22 +84,27 @@ module _ (xs : List ListAction) (held : List (Option (List ℕ))) where
       let sum = sum_by-cons (λ (x : Group). x.berths) g (map (key_group xs held 0) keys) in
       omega (arith, own, rest, sum)
 
-  no_executors : (keys : List (List ℕ)) (i : ℕ) (g : Group)
-      → slice_get (map without_berths (map (key_group xs held 0) keys)) i ≡ Some g
-      → is_remote g.kind ≡ false
-  no_executors [] i g at = absurd (cc)
-  no_executors (key ∷ keys) zero g at =
-      let same : without_berths (key_group xs held 0 key) ≡ g = cc in
-      ap (λ (x : Group). is_remote x.kind) (sym same)
-      ∙ group_kind (first_user xs held key) (min 0 (users held key))
-  no_executors (key ∷ keys) (suc i) g at = no_executors keys i g at
+  pub keys_berthed : (n : ℕ) (keys : List (List ℕ)) → list_all is_berthed (map (key_group xs held n) keys) ≡ true
+  keys_berthed n [] = refl
+  keys_berthed n (key ∷ keys) =
+      let g = key_group xs held n key in
+      ap (λ b. (not b || nat_lt 0 g.berths) && list_all is_berthed (map (key_group xs held n) keys))
+      (group_kind (first_user xs held key) (min n (users held key)))
+      ∙ keys_berthed n keys
 
-executors_are : (n : ℕ) → sum_by (λ (g : Group). g.berths) (executor_groups n) ≡ n
+pub executors_are : (n : ℕ) → sum_by (λ (g : Group). g.berths) (executor_groups n) ≡ n
 executors_are n = by_bool (n == 0)
     (λ b. (n == 0) ≡ b → sum_by (λ (g : Group). g.berths)
     (cond b [] (record { kind = kind.Remote; cancel = false; berths = n } ∷ [])) ≡ n)
     (λ _ e. sym (eqb-true n 0 e))
     (λ _ e. omega arith) refl
+
+pub executors_berthed : (n : ℕ) → list_all is_berthed (executor_groups n) ≡ true
+executors_berthed n = by_bool (n == 0)
+    (λ b. (n == 0) ≡ b → list_all is_berthed
+    (cond b [] (record { kind = kind.Remote; cancel = false; berths = n } ∷ [])) ≡ true)
+    (λ _ e. refl)
+    (λ _ e. let some : nat_lt 0 n ≡ true = grind (arith, nat_tests) in rw some refl) refl
 
 module _ (xs : List ListAction) (remote retries : ℕ) where
   abbrev drawn : Plan
@@ -116,16 +121,10 @@ module _ (xs : List ListAction) (remote retries : ℕ) where
       sum_by-append (λ (g : Group). g.berths) (map (key_group xs held 0) keys) (executor_groups most)
       ∙ (let a = none_of_keys xs held keys in let b = executors_are most in omega (arith, a, b))
 
-  -- where it has no berths, no group is an executor's
-  pub none_remote : berths drawn ≡ 0 → (i : ℕ) (g : Group)
-      → slice_get (bare drawn).groups i ≡ Some g → is_remote g.kind ≡ false
+  pub berthed : list_all is_berthed drawn.groups ≡ true
   unfolding plan_of
-  none_remote none i g at =
+  berthed =
       let held = map local_key xs in
       let keys = keys_of xs in
-      let zero_is : most ≡ 0 = sym executors ∙ none in
-      let bare_groups : map without_berths (map (key_group xs held 0) keys ++ executor_groups most)
-      ≡ map without_berths (map (key_group xs held 0) keys) =
-      ap (λ n. map without_berths (map (key_group xs held 0) keys ++ executor_groups n)) zero_is
-      ∙ ap (map without_berths) (append-nil (map (key_group xs held 0) keys)) in
-      no_executors xs held keys i g (ap (λ gs. slice_get gs i) (sym bare_groups) ∙ at)
+      list_all-append is_berthed (map (key_group xs held 0) keys) (executor_groups most)
+      ∙ and_from _ _ (keys_berthed xs held 0 keys) (executors_berthed most)

@@ -2,4 +2,5 @@
 pub mod Pooled
 pub mod Bare
 pub mod Runnable
+pub mod Drawn
 pub mod Told

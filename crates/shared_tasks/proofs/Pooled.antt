@@ -1,6 +1,6 @@
 -- Pools made of parts are sound, and each of their berths speaks as its pool.
-use Rattle.std.proofs.Common.{◌≡◌, ℕ, zero, suc, ◌+◌, ◌-◌, ◌*◌, ◌<◌, ◌≤◌, ◌==◌, nat_lt, Bool, true, false, ◌&&◌, ◌||◌, not, cond, List, [], ◌∷◌, ◌++◌, length, map, replicate, Option, Some, None, option_map, unwrap_or, refl, ap, sym, subst, ◌∙◌, arith, append_assoc, length-append}
-use Rattle.std.specs.Prelude.{slice_get, flat_map, sum_by}
+use Rattle.std.proofs.Common.{◌≡◌, ℕ, zero, suc, ◌+◌, ◌-◌, ◌<◌, ◌≤◌, ◌==◌, nat_lt, Bool, true, false, ◌||◌, not, cond, List, [], ◌∷◌, ◌++◌, length, replicate, Option, Some, option_map, unwrap_or, refl, ap, sym, subst, ◌∙◌, arith, append_assoc, length-append}
+use Rattle.std.specs.Prelude.{slice_get, sum_by}
 use Rattle.std.specs.List.{filter, list_all, list_any}
 use Rattle.std.proofs.lemmas.Bool.Decides.{nat_tests}
 use Rattle.std.proofs.lemmas.Bool.{and_from, and_parts, lt-ltb, ltb-true, ltb-false}
@@ -9,13 +9,15 @@ use Rattle.std.proofs.lemmas.List.Sums.{sum_by-append, sum_by-cons}
 use Rattle.exec_journal.proofs.Ruled.{by_bool}
 use Rattle.action_list.specs.declared.parts.GroupPart.{GroupPart}
 use Rattle.run_values.specs.Settings.{speaks_remote}
+use Rattle.run_plan.specs.declared.plan.Group.{Group}
 use Rattle.run_plan.specs.declared.plan.Speech.{Speech}
 use Rattle.run_plan.specs.declared.plan.Speech.TheVariants as speech
+use Rattle.run_plan.specs.Groups.{is_remote}
 use Rattle.run_tasks.proofs.AtBerths.{get_front, get_behind}
-use Rattle.shared_rules.specs.declared.pools.SharedPlan.{SharedPlan}
-use Rattle.shared_rules.specs.declared.pools.SharedPool.{SharedPool}
-use Rattle.shared_rules.specs.Pools as p
-use Rattle.shared_tasks.specs.Pools.{is_same, pool_if, pool_of, pools_in, speaking_from, speeches_in, spoken_pools}
+use Rattle.placed_rules.specs.declared.pools.SharedPlan.{SharedPlan}
+use Rattle.placed_rules.specs.declared.pools.SharedPool.{SharedPool}
+use Rattle.placed_rules.specs.Pools as p
+use Rattle.shared_tasks.specs.Pools.{executors_from, is_same, pool_if, pool_of, pools_in, speaking_from, speeches_in, spoken_pools}
 
 -- ---- which groups have a speech
 
@@ -152,12 +154,95 @@ few_berths : (s : Speech) (gs : List ℕ) (n : ℕ)
 few_berths s [] n = omega arith
 few_berths s (k ∷ ks) n = omega arith
 
+-- ---- the pools of executors
+
+abbrev runs_jobs : Group → Bool
+runs_jobs x = is_remote x.kind
+
+abbrev has : ℕ → SharedPool → Bool
+has g pool = p.has_group pool g
+
+abbrev own_pool : ℕ → Group → Speech × SharedPool
+own_pool g x = (speech.Remote, record { groups = g ∷ []; berths = x.berths })
+
+none_before : (xs : List Group) (a g : ℕ) → g < a
+    → length (filter (has g) (pools_in (executors_from a xs))) ≡ 0
+none_before [] a g lt = refl
+none_before (x ∷ xs) a g lt =
+    let rest = none_before xs (suc a) g (omega (arith, lt)) in
+    by_bool (runs_jobs x)
+    (λ b. length (filter (has g) (pools_in (cond b (own_pool a x ∷ executors_from (suc a) xs)
+    (executors_from (suc a) xs)))) ≡ 0)
+    (λ _. rw (eq_less g a lt) rest)
+    (λ _. rest)
+
+abbrev pub is_job : Option Group → Bool
+is_job o = unwrap_or (option_map runs_jobs o) false
+
+once_at : (xs : List Group) (a i : ℕ)
+    → length (filter (has (a + i)) (pools_in (executors_from a xs))) ≡ one_for (is_job (slice_get xs i))
+once_at [] a i = refl
+once_at (x ∷ xs) a zero =
+    let e : a + 0 ≡ a = omega arith in
+    let none = none_before xs (suc a) a (omega arith) in
+    subst (λ g. length (filter (has g) (pools_in (executors_from a (x ∷ xs)))) ≡ one_for (runs_jobs x)) (sym e)
+    (by_bool (runs_jobs x)
+    (λ b. length (filter (has a) (pools_in (cond b (own_pool a x ∷ executors_from (suc a) xs)
+    (executors_from (suc a) xs)))) ≡ one_for b)
+    (λ _. rw (eq_self a) (omega (arith, none)))
+    (λ _. none))
+once_at (x ∷ xs) a (suc i) =
+    let e : suc a + i ≡ a + suc i = omega arith in
+    let rest = subst (λ g. length (filter (has g) (pools_in (executors_from (suc a) xs)))
+    ≡ one_for (is_job (slice_get xs i))) e (once_at xs (suc a) i) in
+    by_bool (runs_jobs x)
+    (λ b. length (filter (has (a + suc i)) (pools_in (cond b (own_pool a x ∷ executors_from (suc a) xs)
+    (executors_from (suc a) xs)))) ≡ one_for (is_job (slice_get xs i)))
+    (λ _. rw (eq_more a (a + suc i) (omega arith)) rest)
+    (λ _. rest)
+
+few_executors : (xs : List Group) (a : ℕ)
+    → sum_by (λ (pool : SharedPool). pool.berths) (pools_in (executors_from a xs))
+    ≤ sum_by (λ (x : Group). x.berths) xs
+few_executors [] a = omega arith
+few_executors (x ∷ xs) a =
+    let rest = few_executors xs (suc a) in
+    let sum = sum_by-cons (λ (y : Group). y.berths) x xs in
+    let pools = pools_in (executors_from (suc a) xs) in
+    let more = sum_by-cons (λ (pool : SharedPool). pool.berths) (own_pool a x).1 pools in
+    by_bool (runs_jobs x)
+    (λ b. sum_by (λ (pool : SharedPool). pool.berths)
+    (pools_in (cond b (own_pool a x ∷ executors_from (suc a) xs) (executors_from (suc a) xs)))
+    ≤ sum_by (λ (y : Group). y.berths) (x ∷ xs))
+    (λ _. omega (arith, rest, sum, more))
+    (λ _. omega (arith, rest, sum))
+
+executors_named : (xs : List Group) (a n : ℕ) → a + length xs ≤ n
+    → list_all (λ (pool : SharedPool). list_all (λ g. nat_lt g n) pool.groups)
+    (pools_in (executors_from a xs)) ≡ true
+executors_named [] a n le = refl
+executors_named (x ∷ xs) a n le =
+    let rest = executors_named xs (suc a) n (omega (arith, le)) in
+    by_bool (runs_jobs x)
+    (λ b. list_all (λ (pool : SharedPool). list_all (λ g. nat_lt g n) pool.groups)
+    (pools_in (cond b (own_pool a x ∷ executors_from (suc a) xs) (executors_from (suc a) xs))) ≡ true)
+    (λ _. rw (lt-ltb a n (omega (arith, le))) rest)
+    (λ _. rest)
+
 -- ---- pools of parts, which speak as the executor's exactly where their group is one
 
-pub record AreParts (q : SharedPlan) (parts : List GroupPart) : Type 0 where
+-- a group of executors has a berth
+abbrev pub is_berthed : Group → Bool
+is_berthed x = not (is_remote x.kind) || nat_lt 0 x.berths
+
+pub record AreParts (q : SharedPlan) (groups : List Group) (parts : List GroupPart) : Type 0 where
   pub as_many : length parts ≡ length q.plan.groups
+  pub as_drawn : length groups ≡ length q.plan.groups
   pub fit : (g : ℕ) (x : GroupPart) → slice_get parts g ≡ Some x
       → p.is_of_executor q g ≡ speaks_remote x.speech
+  pub kinds : (g : ℕ) (x : Group) → slice_get groups g ≡ Some x
+      → p.is_of_executor q g ≡ is_remote x.kind
+  pub berthed : list_all is_berthed groups ≡ true
 
 -- what holds of each pool with its speech
 pub record IsPool (q : SharedPlan) (x : Speech × SharedPool) : Type 0 where
@@ -189,7 +274,7 @@ or_true : (b : Bool) → (not b || true) ≡ true
 or_true true = refl
 or_true false = refl
 
-module _ (q : SharedPlan) (parts : List GroupPart) (are : AreParts q parts) where
+module _ (q : SharedPlan) (groups : List Group) (parts : List GroupPart) (are : AreParts q groups parts) where
   passes : (s : Speech) (v : Bool) → speaks_remote s ≡ v → (i : ℕ) (x : GroupPart)
       → slice_get parts i ≡ Some x → is_same x.speech s ≡ true → p.is_of_executor q (0 + i) ≡ v
   passes s v is i x at same =
@@ -226,22 +311,49 @@ module _ (q : SharedPlan) (parts : List GroupPart) (are : AreParts q parts) wher
             tt,
           )
 
-  module _ (workers executors : ℕ) (some : 1 ≤ workers) (most : workers ≤ 24)
-      (few : executors ≤ 16)
-      (there : (g : ℕ) (gs : List ℕ) → speaking_from speech.Remote 0 parts ≡ g ∷ gs → 1 ≤ executors)
+  -- an executor's group is a pool of its own
+  one_executor : (x : Group) (xs : List Group) (a : ℕ) → p.is_of_executor q a ≡ is_remote x.kind
+      → is_berthed x ≡ true → ArePools q (executors_from (suc a) xs)
+      → ArePools q (executors_from a (x ∷ xs))
+  one_executor x xs a here berthed rest = by (is_remote x.kind) refl
     where
-      remote_are : (gs : List ℕ) → speaking_from speech.Remote 0 parts ≡ gs
-          → ArePools q (pool_if speech.Remote gs executors)
-      remote_are [] e = tt
-      remote_are (g ∷ gs) e = one_is speech.Remote executors (there g gs e) (g ∷ gs) e
+      by : (b : Bool) → is_remote x.kind ≡ b → ArePools q
+          (cond b (own_pool a x ∷ executors_from (suc a) xs) (executors_from (suc a) xs))
+      by true e =
+          let is : p.is_of_executor q a ≡ true = here ∙ e in
+          let some : nat_lt 0 x.berths ≡ true =
+          ap (λ b. not b || nat_lt 0 x.berths) (sym e) ∙ berthed in
+          let berth = ltb-true 0 x.berths some in (
+            record {
+              apart = rw is refl;
+              remote = rw is refl;
+              some = omega (arith, berth);
+            },
+            rest,
+          )
+      by false e = rest
 
-      pub are_pools : ArePools q (spoken_pools parts workers executors)
-      are_pools =
-          app_are q (pool_of speech.Proto parts workers) _
-          (one_is speech.Proto workers some (speaking_from speech.Proto 0 parts) refl)
-          (app_are q (pool_of speech.Json parts workers) _
-          (one_is speech.Json workers some (speaking_from speech.Json 0 parts) refl)
-          (remote_are (speaking_from speech.Remote 0 parts) refl))
+  each_executor : (xs : List Group) (a : ℕ)
+      → ((i : ℕ) (x : Group) → slice_get xs i ≡ Some x
+      → p.is_of_executor q (a + i) ≡ is_remote x.kind)
+      → list_all is_berthed xs ≡ true → ArePools q (executors_from a xs)
+  each_executor [] a kinds berthed = tt
+  each_executor (x ∷ xs) a kinds berthed =
+      let each = and_parts (is_berthed x) (list_all is_berthed xs) berthed in
+      let same : a ≡ a + 0 = omega arith in
+      one_executor x xs a (ap (p.is_of_executor q) same ∙ kinds 0 x refl) each.0
+      (each_executor xs (suc a) (λ i y at. let e : suc a + i ≡ a + suc i = omega arith in
+      ap (p.is_of_executor q) e ∙ kinds (suc i) y at) each.1)
+
+  module _ (workers : ℕ) (some : 1 ≤ workers) where
+    pub are_pools : ArePools q (spoken_pools groups parts workers)
+    are_pools =
+        app_are q (pool_of speech.Proto parts workers) _
+        (one_is speech.Proto workers some (speaking_from speech.Proto 0 parts) refl)
+        (app_are q (pool_of speech.Json parts workers) _
+        (one_is speech.Json workers some (speaking_from speech.Json 0 parts) refl)
+        (each_executor groups 0 (λ i x at.
+        let e : 0 + i ≡ i = omega arith in ap (p.is_of_executor q) e ∙ are.kinds i x at) are.berthed))
 
 -- ---- what is spoken at each berth
 
@@ -289,25 +401,24 @@ none_empty q (x ∷ xs) are zero_is =
 -- ---- all of it
 
 says_once : (s : Speech) → one_for (is_same s speech.Proto) + (one_for (is_same s speech.Json)
-    + one_for (is_same s speech.Remote)) ≡ 1
+    + one_for (speaks_remote s)) ≡ 1
 says_once speech.Proto = refl
 says_once speech.Json = refl
 says_once speech.Remote = refl
 
--- pools made of the parts of a plan's groups
-pub record ArePartsPools (q : SharedPlan) (parts : List GroupPart) (workers executors : ℕ)
-    : Type 0 where
-  pub fitting : AreParts q parts
-  pub pools : q.pools ≡ pools_in (spoken_pools parts workers executors)
+-- pools made of the parts of a plan's groups, which had these berths
+pub record ArePartsPools (q : SharedPlan) (groups : List Group) (parts : List GroupPart)
+    (workers : ℕ) : Type 0 where
+  pub fitting : AreParts q groups parts
+  pub pools : q.pools ≡ pools_in (spoken_pools groups parts workers)
   pub some : 1 ≤ workers
   pub most : workers ≤ 24
-  pub few : executors ≤ 16
-  pub there : (g : ℕ) (gs : List ℕ) → speaking_from speech.Remote 0 parts ≡ g ∷ gs → 1 ≤ executors
+  pub few : sum_by (λ (x : Group). x.berths) groups ≤ 16
 
-module _ (q : SharedPlan) (parts : List GroupPart) (workers executors : ℕ)
-    (m : ArePartsPools q parts workers executors) where
+module _ (q : SharedPlan) (groups : List Group) (parts : List GroupPart) (workers : ℕ)
+    (m : ArePartsPools q groups parts workers) where
   abbrev all : List (Speech × SharedPool)
-  all = spoken_pools parts workers executors
+  all = spoken_pools groups parts workers
 
   abbrev proto : List (Speech × SharedPool)
   proto = pool_of speech.Proto parts workers
@@ -316,10 +427,10 @@ module _ (q : SharedPlan) (parts : List GroupPart) (workers executors : ℕ)
   json = pool_of speech.Json parts workers
 
   abbrev remote : List (Speech × SharedPool)
-  remote = pool_of speech.Remote parts executors
+  remote = executors_from 0 groups
 
   are : ArePools q all
-  are = are_pools q parts m.fitting workers executors m.some m.most m.few m.there
+  are = are_pools q groups parts m.fitting workers m.some
 
   split : pools_in all ≡ pools_in proto ++ (pools_in json ++ pools_in remote)
   split = app_pools proto (json ++ remote) ∙ ap (λ zs. pools_in proto ++ zs) (app_pools json remote)
@@ -332,38 +443,54 @@ module _ (q : SharedPlan) (parts : List GroupPart) (workers executors : ℕ)
       let two = sum_by-append (λ (pool : SharedPool). pool.berths) (pools_in json) (pools_in remote) in
       let a = few_berths speech.Proto (speaking_from speech.Proto 0 parts) workers in
       let b = few_berths speech.Json (speaking_from speech.Json 0 parts) workers in
-      let c = few_berths speech.Remote (speaking_from speech.Remote 0 parts) executors in
+      let c = few_executors groups 0 in
       let whole : p.seats q ≡ sum (pools_in proto ++ (pools_in json ++ pools_in remote)) =
       ap sum (m.pools ∙ split) in
       let most = m.most in
       let few = m.few in
       omega (arith, one, two, a, b, c, whole, most, few)
 
-  named_one : (s : Speech) (n : ℕ) → list_all
+  named_one : (s : Speech) → list_all
       (λ (pool : SharedPool). list_all (λ g. nat_lt g (length q.plan.groups)) pool.groups)
-      (pools_in (pool_of s parts n)) ≡ true
-  named_one s n = named_pool s (speaking_from s 0 parts) n (length q.plan.groups)
+      (pools_in (pool_of s parts workers)) ≡ true
+  named_one s = named_pool s (speaking_from s 0 parts) workers (length q.plan.groups)
       (named_in s parts 0 (length q.plan.groups) (let e = m.fitting.as_many in omega (arith, e)))
 
-  once_one : (s : Speech) (n g : ℕ)
-      → length (filter (λ pool. p.has_group pool g) (pools_in (pool_of s parts n)))
+  once_one : (s : Speech) (g : ℕ)
+      → length (filter (λ pool. p.has_group pool g) (pools_in (pool_of s parts workers)))
       ≡ one_for (says s (slice_get parts g))
-  once_one s n g =
+  once_one s g =
       let e : g ≡ 0 + g = omega arith in
-      one_pool s (speaking_from s 0 parts) n g
+      one_pool s (speaking_from s 0 parts) workers g
       ∙ ap (λ k. one_for (stands k (speaking_from s 0 parts))) e
       ∙ ap one_for (stands_at s parts 0 g)
 
-  by_part : (o : Option GroupPart) (g : ℕ) → g < length parts → slice_get parts g ≡ o
-      → one_for (says speech.Proto o) + (one_for (says speech.Json o)
-      + one_for (says speech.Remote o)) ≡ 1
-  by_part None g lt e = absurd (beyond parts g lt e)
-    where
-      beyond : (xs : List GroupPart) (i : ℕ) → i < length xs → slice_get xs i ≡ None → ⊥
-      beyond [] i lt e = absurd (omega (arith, lt))
-      beyond (x ∷ xs) zero lt e = cc
-      beyond (x ∷ xs) (suc i) lt e = beyond xs i (omega (arith, lt)) e
-  by_part (Some x) g lt e = says_once x.speech
+  once_job : (g : ℕ) → length (filter (λ pool. p.has_group pool g) (pools_in remote))
+      ≡ one_for (is_job (slice_get groups g))
+  once_job g =
+      let e : g ≡ 0 + g = omega arith in
+      ap (λ k. length (filter (λ pool. p.has_group pool k) (pools_in remote))) e ∙ once_at groups 0 g
+
+  there : {X : Type 0} (xs : List X) (i : ℕ) → i < length xs → (x : X) × (slice_get xs i ≡ Some x)
+  there [] i lt = absurd (omega (arith, lt))
+  there (x ∷ xs) zero lt = (x, refl)
+  there (x ∷ xs) (suc i) lt = there xs i (omega (arith, lt))
+
+  -- a group is of one pool: of its part's speech, or an executor's
+  by_part : (g : ℕ) → g < length q.plan.groups
+      → one_for (says speech.Proto (slice_get parts g))
+      + (one_for (says speech.Json (slice_get parts g)) + one_for (is_job (slice_get groups g))) ≡ 1
+  by_part g lt =
+      let part = there parts g (let e = m.fitting.as_many in omega (arith, lt, e)) in
+      let group = there groups g (let e = m.fitting.as_drawn in omega (arith, lt, e)) in
+      let same : is_remote group.0.kind ≡ speaks_remote part.0.speech =
+      sym (m.fitting.kinds g group.0 group.1) ∙ m.fitting.fit g part.0 part.1 in
+      let jobs : is_job (slice_get groups g) ≡ speaks_remote part.0.speech = ap is_job group.1 ∙ same in
+      ap (λ o. one_for (says speech.Proto o)
+      + (one_for (says speech.Json o) + one_for (is_job (slice_get groups g)))) part.1
+      ∙ ap (λ b. one_for (is_same part.0.speech speech.Proto)
+      + (one_for (is_same part.0.speech speech.Json) + one_for b)) jobs
+      ∙ says_once part.0.speech
 
   once_are : (g : ℕ) → g < length q.plan.groups
       → length (filter (λ pool. p.has_group pool g) q.pools) ≡ 1
@@ -371,12 +498,11 @@ module _ (q : SharedPlan) (parts : List GroupPart) (workers executors : ℕ)
       let f : SharedPool → Bool = λ pool. p.has_group pool g in
       ap (λ zs. length (filter f zs)) (m.pools ∙ split)
       ∙ app_count f (pools_in proto) (pools_in json ++ pools_in remote)
-      ∙ (let a = once_one speech.Proto workers g in
-      let b = once_one speech.Json workers g in
-      let c = once_one speech.Remote executors g in
+      ∙ (let a = once_one speech.Proto g in
+      let b = once_one speech.Json g in
+      let c = once_job g in
       let rest = app_count f (pools_in json) (pools_in remote) in
-      let e = m.fitting.as_many in
-      let whole = by_part (slice_get parts g) g (omega (arith, lt, e)) refl in
+      let whole = by_part g lt in
       omega (arith, a, b, c, rest, whole))
 
   pub sound_pools : p.SoundPools q
@@ -386,9 +512,10 @@ module _ (q : SharedPlan) (parts : List GroupPart) (workers executors : ℕ)
         (λ (pool : SharedPool). list_all (λ g. nat_lt g (length q.plan.groups)) pool.groups) pools
         ≡ true) (sym (m.pools ∙ split))
         (app_all _ (pools_in proto) (pools_in json ++ pools_in remote)
-        (named_one speech.Proto workers)
-        (app_all _ (pools_in json) (pools_in remote) (named_one speech.Json workers)
-        (named_one speech.Remote executors)));
+        (named_one speech.Proto)
+        (app_all _ (pools_in json) (pools_in remote) (named_one speech.Json)
+        (executors_named groups 0 (length q.plan.groups)
+        (let e = m.fitting.as_drawn in omega (arith, e)))));
     once = once_are;
     apart = subst (λ pools. list_all (p.is_apart q) pools ≡ true) (sym m.pools)
         (all_apart q all are);

@@ -1,5 +1,5 @@
 -- In pools made of parts, each group that a branch names has a berth, and may hold a line there.
-use Rattle.std.proofs.Common.{◌≡◌, ℕ, zero, suc, ◌+◌, ◌-◌, ◌<◌, ◌≤◌, nat_lt, Bool, true, false, ◌&&◌, ◌||◌, cond, List, [], ◌∷◌, length, Option, Some, is_some, refl, ap, sym, subst, ◌∙◌, arith}
+use Rattle.std.proofs.Common.{◌≡◌, ℕ, zero, suc, ◌+◌, ◌-◌, ◌<◌, ◌≤◌, nat_lt, true, ◌&&◌, ◌||◌, cond, List, [], ◌∷◌, length, Option, Some, is_some, refl, ap, sym, subst, ◌∙◌, arith}
 use Rattle.std.specs.Prelude.{slice_get, sum_by}
 use Rattle.std.specs.List.{filter}
 use Rattle.std.proofs.lemmas.Bool.{and_parts, le-ltb, lt-ltb, ltb-true}
@@ -8,16 +8,17 @@ use Rattle.exec_journal.proofs.Ruled.{by_bool}
 use Rattle.action_list.specs.declared.parts.GroupPart.{GroupPart}
 use Rattle.run_plan.specs.declared.plan.Branch.{Branch}
 use Rattle.run_plan.specs.declared.plan.Branch.TheVariants.{Local, Remote}
+use Rattle.run_plan.specs.declared.plan.Group.{Group}
 use Rattle.run_plan.specs.declared.plan.Plan.{Plan}
 use Rattle.run_plan.specs.declared.plan.PlanAction.{PlanAction}
 use Rattle.run_plan.specs.declared.plan.Speech.{Speech}
 use Rattle.run_plan.specs.Groups.{group_of}
 use Rattle.run_plan.specs.Sound.{Sound, are_different, are_sound_from, has_branches, is_sound_action, names_group}
-use Rattle.shared_rules.specs.declared.pools.SharedPlan.{SharedPlan}
-use Rattle.shared_rules.specs.declared.pools.SharedPool.{SharedPool}
-use Rattle.shared_rules.specs.Needs.{most_lines}
-use Rattle.shared_rules.specs.Pools as p
-use Rattle.shared_rules.specs.Runnable.{EachHasPool, HasPool}
+use Rattle.placed_rules.specs.declared.pools.SharedPlan.{SharedPlan}
+use Rattle.placed_rules.specs.declared.pools.SharedPool.{SharedPool}
+use Rattle.placed_rules.specs.Needs.{most_lines}
+use Rattle.placed_rules.specs.Pools as p
+use Rattle.placed_rules.specs.Runnable.{EachHasPool, HasPool}
 use Rattle.shared_tasks.specs.Pools.{pools_in, spoken_pools}
 use Rattle.shared_tasks.proofs.Pooled.{ArePartsPools, ArePools, are_pools, sound_pools}
 
@@ -103,16 +104,16 @@ branches_at plan a (suc i) (y ∷ ys) x h at =
 
 -- ---- both
 
-module _ (q : SharedPlan) (parts : List GroupPart) (workers executors : ℕ)
-    (m : ArePartsPools q parts workers executors) (sound : Sound q.plan)
+module _ (q : SharedPlan) (groups : List Group) (parts : List GroupPart) (workers : ℕ)
+    (m : ArePartsPools q groups parts workers) (sound : Sound q.plan)
     (instances : 1 ≤ q.instances) where
   found : (g : ℕ) → g < length q.plan.groups → Stands q.pools g
   found g lt =
-      let all = spoken_pools parts workers executors in
-      let are = are_pools q parts m.fitting workers executors m.some m.most m.few m.there in
+      let all = spoken_pools groups parts workers in
+      let are = are_pools q groups parts m.fitting workers m.some in
       let once : length (filter (λ pool. p.has_group pool g) (pools_in all)) ≡ 1 =
       ap (λ pools. length (filter (λ pool. p.has_group pool g) pools)) (sym m.pools)
-      ∙ (sound_pools q parts workers executors m).once g lt in
+      ∙ (sound_pools q groups parts workers m).once g lt in
       subst (λ pools. Stands pools g) (sym m.pools) (stands q all are g (omega (arith, once)))
 
   -- a group may hold a line in a pool with a berth

@@ -1,5 +1,5 @@
 -- In which order words, a list and its actions' files are read, and what that leads to.
-use Rattle.std.specs.Prelude.{◌≡◌, ℕ, List, Option, Some, None, Result, Ok, Err}
+use Rattle.std.specs.Prelude.{ℕ, List, Option, Some, None, Result, Ok, Err}
 use Rattle.list_actions.specs.declared.types.ActionList.{ActionList}
 use Rattle.build_report.specs.declared.fault.RunFault.{RunFault}
 use Rattle.build_report.specs.declared.fault.RunFault.TheVariants as fault

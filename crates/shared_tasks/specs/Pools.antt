@@ -1,9 +1,11 @@
--- The pools of a plan: the groups that speak protobuf, those that speak JSON, and the executor.
+-- The pools of a plan: the groups that speak protobuf, those that speak JSON, and each executor's group.
 use Rattle.std.specs.Prelude.{ℕ, suc, Bool, true, false, ◌++◌, if◌then◌else◌, List, [], ◌∷◌, flat_map, map, replicate}
 use Rattle.action_list.specs.declared.parts.GroupPart.{GroupPart}
+use Rattle.run_plan.specs.declared.plan.Group.{Group}
 use Rattle.run_plan.specs.declared.plan.Speech.{Speech}
 use Rattle.run_plan.specs.declared.plan.Speech.TheVariants as speech
-use Rattle.shared_rules.specs.declared.pools.SharedPool.{SharedPool}
+use Rattle.run_plan.specs.Groups.{is_remote}
+use Rattle.placed_rules.specs.declared.pools.SharedPool.{SharedPool}
 
 abbrev pub is_same : Speech → Speech → Bool
 is_same speech.Proto speech.Proto = true
@@ -25,11 +27,19 @@ pool_if s (g ∷ gs) n = (s, record { groups = g ∷ gs; berths = n }) ∷ []
 abbrev pub pool_of : Speech → List GroupPart → ℕ → List (Speech × SharedPool)
 pool_of s parts n = pool_if s (speaking_from s 0 parts) n
 
--- so many workers for each protocol, and so many executors
-abbrev pub spoken_pools : List GroupPart → ℕ → ℕ → List (Speech × SharedPool)
-spoken_pools parts workers executors =
+-- of the groups, the first of which has this number, each executor's with its own berths
+abbrev pub executors_from : ℕ → List Group → List (Speech × SharedPool)
+executors_from g [] = []
+executors_from g (x ∷ xs) =
+    if is_remote x.kind
+    then (speech.Remote, record { groups = g ∷ []; berths = x.berths }) ∷ executors_from (suc g) xs
+    else executors_from (suc g) xs
+
+-- so many workers for each protocol, and the executors of these groups
+abbrev pub spoken_pools : List Group → List GroupPart → ℕ → List (Speech × SharedPool)
+spoken_pools groups parts workers =
     pool_of speech.Proto parts workers
-    ++ (pool_of speech.Json parts workers ++ pool_of speech.Remote parts executors)
+    ++ (pool_of speech.Json parts workers ++ executors_from 0 groups)
 
 abbrev pub pools_in : List (Speech × SharedPool) → List SharedPool
 pools_in xs = map (λ x. x.1) xs

@@ -8,15 +8,13 @@ use Rattle.run_values.specs.Work.{IsWorkOf}
 use Rattle.run_plan.specs.declared.plan.Group.{Group}
 use Rattle.run_plan.specs.declared.plan.Plan.{Plan}
 use Rattle.run_plan.specs.declared.plan.Speech.{Speech}
-use Rattle.run_plan.specs.Groups.{berths}
 use Rattle.run_plan.specs.Sound.{Sound}
 use Rattle.run_tasks.specs.Setup.{commands_for}
-use Rattle.run_tasks.specs.declared.task.Task.{Task}
 use Rattle.run_values.specs.Settings.{speaks_remote}
-use Rattle.shared_rules.specs.declared.pools.SharedPlan.{SharedPlan}
-use Rattle.shared_rules.specs.declared.pools.SharedPool.{SharedPool}
-use Rattle.shared_rules.specs.Pools.{SoundPools, is_remote_berth, seats}
-use Rattle.shared_rules.specs.Runnable.{EachHasPool}
+use Rattle.placed_rules.specs.declared.pools.SharedPlan.{SharedPlan}
+use Rattle.placed_rules.specs.declared.pools.SharedPool.{SharedPool}
+use Rattle.placed_rules.specs.Pools.{SoundPools, is_remote_berth, seats}
+use Rattle.placed_rules.specs.Runnable.{EachHasPool}
 use Rattle.shared_tasks.specs.declared.words.SharedOptions.{SharedOptions}
 use Rattle.shared_tasks.specs.declared.reading.SharedTask.{SharedTask}
 use Rattle.shared_tasks.specs.Pools.{pools_in, speeches_in, spoken_pools}
@@ -28,30 +26,30 @@ drawn o xs = plan_of xs 0 o.options.remote o.options.retries
 abbrev pub without_berths : Group → Group
 without_berths g = record { kind = g.kind; cancel = g.cancel; berths = 0 }
 
--- no group has berths of its own
+-- the plan, no group of which has berths of its own
+abbrev pub bare : Plan → Plan
+bare p = record { actions = p.actions; groups = map without_berths p.groups; limit = p.limit }
+
 abbrev pub bare_plan : SharedOptions → List ListAction → Plan
-bare_plan o xs = record {
-  actions = (drawn o xs).actions;
-  groups = map without_berths (drawn o xs).groups;
-  limit = (drawn o xs).limit;
-}
+bare_plan o xs = bare (drawn o xs)
 
 abbrev pub parts_by : SharedOptions → List ListAction → List GroupPart
 parts_by o xs = parts_of xs (bare_plan o xs) o.options.extra o.options.executor
 
 -- the executor's berths are as many as it would have of its own
-abbrev pub executors_by : SharedOptions → List ListAction → ℕ
-executors_by o xs = berths (drawn o xs)
-
 abbrev pub pools_by : SharedOptions → List ListAction → List (Speech × SharedPool)
-pools_by o xs = spoken_pools (parts_by o xs) o.workers (executors_by o xs)
+pools_by o xs = spoken_pools (drawn o xs).groups (parts_by o xs) o.workers
+
+-- a plan on the berths of pools: so many workers a protocol, and so many lines of a worker key
+abbrev pub pooled : Plan → List GroupPart → ℕ → ℕ → SharedPlan
+pooled p parts workers instances = record {
+  plan = bare p;
+  pools = pools_in (spoken_pools p.groups parts workers);
+  instances = instances;
+}
 
 abbrev pub shared_plan : SharedOptions → List ListAction → SharedPlan
-shared_plan o xs = record {
-  plan = bare_plan o xs;
-  pools = pools_in (pools_by o xs);
-  instances = o.options.instances;
-}
+shared_plan o xs = pooled (drawn o xs) (parts_by o xs) o.workers o.options.instances
 
 -- all of a list's task but its work, and the plan of the core
 pub record IsSharedTask (o : SharedOptions) (xs : List ListAction) (made : SharedTask)

@@ -1,21 +1,20 @@
 // The task of a list, computed from the list, its work and the options.
-ghost use Rattle.std.specs.Prelude.{◌≡◌, ◌<◌, ◌^◌, IfOk, length, map, sum_by};
+ghost use Rattle.std.specs.Prelude.{◌≡◌, IfOk, map};
 ghost use Rattle.list_actions.specs.Whole.{IsWhole};
-ghost use Rattle.run_plan.specs.Sound.{Sound};
 ghost use Rattle.shared_tasks.specs.Words.{AreShared};
-ghost use Rattle.shared_tasks.specs.Tasks.{IsSharedTask, bare_plan, drawn, without_berths};
-ghost use Rattle.run_plan.specs.Groups.{berths};
+ghost use Rattle.shared_tasks.specs.Tasks.{IsSharedTask, without_berths};
 
 use crate::pools::pools_of;
 use crate::reading::SharedTask;
 use crate::words::SharedOptions;
 use action_list::{ActionList, group_parts, plan, plan_again};
+use placed_rules::SharedPlan;
 use plain_values::{Items, NoMemory};
 use remote_messages::Work;
 use run_plan::{Group, Plan};
 use run_tasks::{Task, commands_of};
-use shared_rules::SharedPlan;
 use std::alloc::Global;
+use std::mem::replace;
 
 /// Returns the task of a list that has this work, and the plan of its core.
 ///
@@ -35,8 +34,8 @@ pub fn shared_task_of(
 {
     let own = &options.options;
     let mut plan = plan(alloc, list, 0, own.remote, own.retries)?;
-    let executors = all_berths(plan.groups.as_slice());
-    plan.groups = bare(alloc, plan.groups.as_slice())?;
+    let groups = bare(alloc, plan.groups.as_slice())?;
+    let drawn = replace(&mut plan.groups, groups);
     let parts = group_parts(
         alloc,
         list,
@@ -44,7 +43,7 @@ pub fn shared_task_of(
         own.extra.as_slice(),
         own.executor.as_str(),
     )?;
-    let laid = pools_of(alloc, parts.as_slice(), options.workers, executors)?;
+    let laid = pools_of(alloc, drawn.as_slice(), parts.as_slice(), options.workers)?;
     let commands = commands_of(alloc, parts.as_slice())?;
     let twin = plan_again(alloc, &plan)?;
     let task = Task {
@@ -61,13 +60,6 @@ pub fn shared_task_of(
         instances: own.instances,
     };
     Ok(SharedTask { task, shared })
-}
-
-fn all_berths(groups: &[Group]) -> u32
-    requires { sum_by (λ g. g.berths) groups.now < 2 ^ 32 }
-    ensures { result ≡ sum_by (λ g. g.berths) groups.now }
-{
-    groups.iter().map(|group| group.berths).sum()
 }
 
 // Returns the groups without berths.

@@ -12,9 +12,9 @@ use crate::plans::shared_task_of;
 use crate::words::{SharedOptions, read_shared_words};
 use action_list::ActionList;
 use outside::Floor;
+use placed_rules::SharedPlan;
 use run_loading::{RunFault, load_work, read_actions};
 use run_tasks::Task;
-use shared_rules::SharedPlan;
 use std::alloc::Global;
 
 // The maximum number of worker keys of a list.

@@ -5,3 +5,4 @@ pub mod Plans
 pub mod Sounds
 pub mod SpawnLimits
 mod Rows
+pub mod Sandboxed

@@ -16,6 +16,7 @@ use Rattle.action_list.proofs.SoundGroups.{executor}
 use Rattle.spawn_strategies.specs.declared.types.ChoiceFault.{ChoiceFault}
 use Rattle.spawn_strategies.specs.declared.types.ChoiceFault.TheVariants as fault
 use Rattle.spawn_strategies.specs.declared.types.Name.{Name}
+use Rattle.spawn_strategies.specs.declared.types.PlanLimits.{PlanLimits}
 use Rattle.spawn_strategies.specs.declared.types.Strategies.{Strategies}
 use Rattle.spawn_strategies.specs.Chosen.{chosen}
 use Rattle.spawn_strategies.specs.Choices.{Refuses, all_placed, choice_of, chosen_actions, chosen_names, first_unsupported, groups_by, key_groups, name_in, name_of, plan_by, sandbox_groups, unless_many, unless_unsupported, with_name}
@@ -86,20 +87,20 @@ length-key_groups ys instances =
 
 -- ---- the whole plan
 
-module _ (ys : List ListAction) (ns : List Name) (instances sandboxed remote retries : ℕ) where
+module _ (ys : List ListAction) (ns : List Name) (sandboxed : ℕ) (l : PlanLimits) where
   -- the plan, as it is when these are the keys' groups, and so many
   abbrev made : ℕ → List Group → Plan
   made k gs = record {
     actions = all_placed k (k + length (sandbox_groups sandboxed ns)) ns (plan_actions (keys_of ys) [] ys);
-    groups = groups_by gs ns sandboxed remote;
-    limit = retries + 1;
+    groups = groups_by gs ns sandboxed l.remote;
+    limit = l.retries + 1;
   }
 
-  placed_is : placing (planned ys instances remote retries) ns sandboxed remote
-      ≡ unless_many (length (keys_of ys)) (plan_by ys ns instances sandboxed remote retries)
+  placed_is : placing (planned ys l.instances l.remote l.retries) ns sandboxed l
+      ≡ unless_many l.keys (length (keys_of ys)) (plan_by ys ns l.instances sandboxed l.remote l.retries)
   placed_is =
-      ap (λ gs. unless_many (length gs) (made (length gs) gs)) (keyed_are ys instances remote)
-      ∙ ap (λ k. unless_many k (made k (key_groups ys instances))) (length-key_groups ys instances)
+      ap (λ gs. unless_many l.keys (length gs) (made (length gs) gs)) (keyed_are ys l.instances l.remote)
+      ∙ ap (λ k. unless_many l.keys k (made k (key_groups ys l.instances))) (length-key_groups ys l.instances)
 
 -- the list that was made is that of the chosen strategies
 pub copies_are : (xs : List ListAction) (words : Strategies) (ys : List ListAction) (ns : List Name)
@@ -114,36 +115,36 @@ length-plan_actions keys before [] = refl
 length-plan_actions keys before (x ∷ xs) = ap suc (length-plan_actions keys (before ++ x ∷ []) xs)
 
 -- each planned action has a name
-pub names_enough : (xs : List ListAction) (words : Strategies) (instances remote retries : ℕ) (p : Plan) (ys : List ListAction) (ns : List Name)
+pub names_enough : (xs : List ListAction) (words : Strategies) (l : PlanLimits) (p : Plan) (ys : List ListAction) (ns : List Name)
     → unless_unsupported (first_unsupported words xs) (Ok (chosen_names words xs)) ≡ Ok ns
-    → ys ≡ all_named ns xs → p ≡ plan_of ys instances remote retries → length ns ≡ length p.actions
-names_enough xs words instances remote retries p ys ns e named planned_is =
+    → ys ≡ all_named ns xs → p ≡ plan_of ys l.instances l.remote l.retries → length ns ≡ length p.actions
+names_enough xs words l p ys ns e named planned_is =
     let names = ap length (passed (first_unsupported words xs) (chosen_names words xs) ns e).1 in
     let copies = ap length (copies_are xs words ys ns e named) in
-    let actions = ap (λ q. length q.actions) (planned_is ∙ sym (plan_of-planned ys instances remote retries)) in
+    let actions = ap (λ q. length q.actions) (planned_is ∙ sym (plan_of-planned ys l.instances l.remote l.retries)) in
     omega (arith, names, copies, actions, length-plan_actions (keys_of ys) [] ys, length-map xs (name_of words), length-map xs (λ x. with_name (name_of words x) x))
 
-pub choice_is : (xs : List ListAction) (words : Strategies) (instances remote retries : ℕ) (p : Plan) (ys : List ListAction) (ns : List Name)
+pub choice_is : (xs : List ListAction) (words : Strategies) (l : PlanLimits) (p : Plan) (ys : List ListAction) (ns : List Name)
     → unless_unsupported (first_unsupported words xs) (Ok (chosen_names words xs)) ≡ Ok ns
-    → ys ≡ all_named ns xs → p ≡ plan_of ys instances remote retries
-    → placing p ns words.sandboxed remote ≡ choice_of xs words instances remote retries
+    → ys ≡ all_named ns xs → p ≡ plan_of ys l.instances l.remote l.retries
+    → placing p ns words.sandboxed l ≡ choice_of xs words l
 unfolding choice_of
-choice_is xs words instances remote retries p ys ns e named planned_is =
+choice_is xs words l p ys ns e named planned_is =
     let names = passed (first_unsupported words xs) (chosen_names words xs) ns e in
     let is = copies_are xs words ys ns e named in
-    ap (λ q. placing q ns words.sandboxed remote) (planned_is ∙ sym (plan_of-planned ys instances remote retries))
-    ∙ ap (λ zs. placing (planned zs instances remote retries) ns words.sandboxed remote) is
-    ∙ ap (λ ms. placing (planned (chosen_actions words xs) instances remote retries) ms words.sandboxed remote) (sym names.1)
-    ∙ placed_is (chosen_actions words xs) (chosen_names words xs) instances words.sandboxed remote retries
-    ∙ ap (λ o. unless_unsupported o (unless_many (length (keys_of (chosen_actions words xs)))
-    (plan_by (chosen_actions words xs) (chosen_names words xs) instances words.sandboxed remote retries))) (sym names.0)
+    let due = plan_by (chosen_actions words xs) (chosen_names words xs) l.instances words.sandboxed l.remote l.retries in
+    ap (λ q. placing q ns words.sandboxed l) (planned_is ∙ sym (plan_of-planned ys l.instances l.remote l.retries))
+    ∙ ap (λ zs. placing (planned zs l.instances l.remote l.retries) ns words.sandboxed l) is
+    ∙ ap (λ ms. placing (planned (chosen_actions words xs) l.instances l.remote l.retries) ms words.sandboxed l) (sym names.1)
+    ∙ placed_is (chosen_actions words xs) (chosen_names words xs) words.sandboxed l
+    ∙ ap (λ o. unless_unsupported o (unless_many l.keys (length (keys_of (chosen_actions words xs))) due)) (sym names.0)
 
 -- a plan that is answered is the one of the chosen strategies, with few keys
-pub answered : (o : Option ℕ) (keys : ℕ) (p q : Plan) → unless_unsupported o (unless_many keys p) ≡ Ok q → (keys ≤ 48) × (p ≡ q)
-answered (Some a) keys p q e = cc
-answered None keys p q e =
-    elim (leb keys 48) as (λ b. leb keys 48 ≡ b → cond b (Ok p) (Err (fault.TooManyKeys keys)) ≡ Ok q → (keys ≤ 48) × (p ≡ q)) [
-      | true ↦ (λ few h. let same : p ≡ q = cc in (leb-true keys 48 few, same))
+pub answered : (o : Option ℕ) (most keys : ℕ) (p q : Plan) → unless_unsupported o (unless_many most keys p) ≡ Ok q → (keys ≤ most) × (p ≡ q)
+answered (Some a) most keys p q e = cc
+answered None most keys p q e =
+    elim (leb keys most) as (λ b. leb keys most ≡ b → cond b (Ok p) (Err (fault.TooManyKeys keys)) ≡ Ok q → (keys ≤ most) × (p ≡ q)) [
+      | true ↦ (λ few h. let same : p ≡ q = cc in (leb-true keys most few, same))
       | false ↦ (λ many h. cc)
     ]
     refl e

@@ -8,9 +8,10 @@ use Rattle.list_actions.specs.declared.types.Strategy.TheVariants as strategy
 use Rattle.spawn_strategies.specs.declared.types.ChoiceFault.TheVariants as fault
 use Rattle.spawn_strategies.specs.declared.types.Name.{Name}
 use Rattle.spawn_strategies.specs.declared.types.Name.TheVariants as name
+use Rattle.spawn_strategies.specs.declared.types.PlanLimits.{PlanLimits}
 use Rattle.spawn_strategies.specs.declared.types.Strategies.{Strategies}
 use Rattle.spawn_strategies.specs.Chosen.{chosen}
-use Rattle.spawn_strategies.specs.Choices.{choice_of}
+use Rattle.spawn_strategies.specs.Choices.{choice_of, sandboxes}
 use Rattle.spawn_strategies.specs.SpawnWords.{common_in, names_of, rule_in}
 
 abbrev needs : Bool → Needs
@@ -59,6 +60,9 @@ words_of names common = record {
 abbrev worker_first : List Name
 worker_first = name.Worker ∷ name.Sandboxed ∷ []
 
+abbrev limits : PlanLimits
+limits = record { keys = 48; instances = 4; remote = 1; retries = 1 }
+
 takes_sandbox : chosen (words_of worker_first []) plain ≡ Some name.Sandboxed
 takes_sandbox = refl
 
@@ -77,19 +81,19 @@ takes_common = refl
 takes_own : chosen (words_of worker_first []) other ≡ Some name.Remote
 takes_own = refl
 
-none_supports : choice_of (plain ∷ []) (words_of (name.Worker ∷ []) []) 4 1 1
+none_supports : choice_of (plain ∷ []) (words_of (name.Worker ∷ []) []) limits
     ≡ Err (fault.NoneSupports 0)
 unfolding choice_of
 none_supports = refl
 
 -- the first such action is told
-first_is_told : choice_of (other ∷ plain ∷ plain ∷ []) (words_of (name.Worker ∷ []) []) 4 1 1
+first_is_told : choice_of (other ∷ plain ∷ plain ∷ []) (words_of (name.Worker ∷ []) []) limits
     ≡ Err (fault.NoneSupports 1)
 unfolding choice_of
 first_is_told = refl
 
 -- a sandboxed action has a local branch, before the executor of the other
-both_sorts : choice_of (plain ∷ other ∷ []) (words_of worker_first []) 4 1 1 ≡ Ok (record {
+both_sorts : choice_of (plain ∷ other ∷ []) (words_of worker_first []) limits ≡ Ok (record {
   actions = record {
     name = codes "a";
     outputs = codes "a" ∷ [];
@@ -109,6 +113,19 @@ both_sorts : choice_of (plain ∷ other ∷ []) (words_of worker_first []) 4 1 1
 })
 unfolding choice_of
 both_sorts = refl
+
+-- a plan without a berth for a worker has keys nevertheless
+no_key : choice_of (working ∷ []) (words_of worker_first []) (record limits { keys = 0 })
+    ≡ Err (fault.TooManyKeys 1)
+unfolding choice_of
+no_key = refl
+
+-- sandboxes are wanted where a list has them
+some_sandboxes : sandboxes (words_of worker_first []) ≡ 1
+some_sandboxes = refl
+
+no_sandboxes : sandboxes (words_of (name.Worker ∷ []) (name.Remote ∷ [])) ≡ 0
+no_sandboxes = refl
 
 -- ---- words
 

@@ -25,10 +25,12 @@ use Rattle.action_list.proofs.SoundMakers.{sound_makers}
 use Rattle.spawn_strategies.specs.declared.types.ChoiceFault.{ChoiceFault}
 use Rattle.spawn_strategies.specs.declared.types.Name.{Name}
 use Rattle.spawn_strategies.specs.declared.types.Name.TheVariants as name
+use Rattle.spawn_strategies.specs.declared.types.PlanLimits.{PlanLimits}
 use Rattle.spawn_strategies.specs.declared.types.Strategies.{Strategies}
-use Rattle.spawn_strategies.specs.Choices.{Answers, all_placed, choice_of, chosen_actions, chosen_names, first_unsupported, groups_by, is_sandboxed, key_groups, name_of, placed, plan_by, remote_groups, sandbox_groups, strategy_by, uses_executor, with_name}
+use Rattle.spawn_strategies.specs.Choices.{Answers, AreLimits, all_placed, choice_of, chosen_actions, chosen_names, first_unsupported, groups_by, is_sandboxed, key_groups, name_of, placed, plan_by, remote_groups, sandbox_groups, sandboxes, strategy_by, uses_executor, with_name}
 use Rattle.spawn_strategies.proofs.Placed.{all_earlier, length-all_placed, makers_kept, outputs_kept}
 use Rattle.spawn_strategies.proofs.Plans.{answered, length-key_groups, length-plan_actions}
+use Rattle.spawn_strategies.proofs.Sandboxed.{few_sandboxes}
 
 -- ---- groups of executors
 
@@ -79,7 +81,7 @@ sound_keys xs held n (key ∷ keys) = and_from _ _ (sound_by _ (min n (users hel
 -- ---- all groups
 
 module _ (ys : List ListAction) (ns : List Name) (instances sandboxed remote : ℕ) where
-  few_berths : sandboxed + remote ≤ 16 → sum_by (λ g. g.berths) (groups_by (key_groups ys instances) ns sandboxed remote) ≤ 64
+  few_berths : min sandboxed (count_by is_sandboxed ns) + remote ≤ 16 → sum_by (λ g. g.berths) (groups_by (key_groups ys instances) ns sandboxed remote) ≤ 64
   few_berths few =
       let held = map local_key ys in
       let counts = map (users held) (keys_of ys) in
@@ -253,8 +255,8 @@ module _ (f : ListAction → Name) (instances sandboxed remote retries : ℕ) (s
       (sound_from (before ++ x ∷ []) rest parts.1 ys on ns names)) in
       and_from _ _ (sound_action before x rest parts.0 ys is ns named) later
 
-  sound_plan : (xs : List ListAction) → IsWhole xs → sandboxed + remote ≤ 16 → retries ≤ 9
-      → length (keys_of (map (λ z. with_name (f z) z) xs)) ≤ 48
+  sound_plan : (xs : List ListAction) → IsWhole xs → min sandboxed (count_by is_sandboxed (map f xs)) + remote ≤ 16 → retries ≤ 9
+      → length (keys_of (map (λ z. with_name (f z) z) xs)) ≤ 4096
       → Sound (plan_by (map (λ z. with_name (f z) z) xs) (map f xs) instances sandboxed remote retries)
   sound_plan xs whole few low keys =
       let ys = map (λ z. with_name (f z) z) xs in
@@ -276,12 +278,17 @@ module _ (f : ListAction → Name) (instances sandboxed remote retries : ℕ) (s
         each_action = sound_from [] xs whole.few_outputs ys refl ns refl;
       }
 
-pub sound_answer : (xs : List ListAction) (words : Strategies) (instances remote retries : ℕ) (r : Result Plan ChoiceFault)
-    → 1 ≤ words.sandboxed → 1 ≤ remote → remote + words.sandboxed ≤ 16 → retries ≤ 9 → IsWhole xs
-    → Answers r (choice_of xs words instances remote retries) → IfOk r Sound
+pub sound_answer : (xs : List ListAction) (words : Strategies) (l : PlanLimits) (r : Result Plan ChoiceFault)
+    → 1 ≤ words.sandboxed → sandboxes words + l.remote ≤ 16 → AreLimits l → IsWhole xs
+    → Answers r (choice_of xs words l) → IfOk r Sound
 unfolding choice_of
-sound_answer xs words instances remote retries (Err e) some_s some_r few low whole h = tt
-sound_answer xs words instances remote retries (Ok p) some_s some_r few low whole h =
-    let due = plan_by (chosen_actions words xs) (chosen_names words xs) instances words.sandboxed remote retries in
-    let is = answered (first_unsupported words xs) (length (keys_of (chosen_actions words xs))) due p h in
-    subst Sound is.1 (sound_plan (name_of words) instances words.sandboxed remote retries some_s some_r xs whole (omega (arith, few)) low is.0)
+sound_answer xs words l (Err e) some few limits whole h = tt
+sound_answer xs words l (Ok p) some few limits whole h =
+    let due = plan_by (chosen_actions words xs) (chosen_names words xs) l.instances words.sandboxed l.remote l.retries in
+    let is = answered (first_unsupported words xs) l.keys (length (keys_of (chosen_actions words xs))) due p h in
+    let keys = is.0 in
+    let most = limits.keys in
+    let used = few_sandboxes words xs in
+    subst Sound is.1
+    (sound_plan (name_of words) l.instances words.sandboxed l.remote l.retries some limits.remote xs whole
+    (omega (arith, few, used)) limits.retries (omega (arith, keys, most)))

@@ -1,5 +1,5 @@
 -- What holds of all options that words give.
-use Rattle.std.proofs.Common.{◌≡◌, ◌≤◌, ℕ, ◌+◌, nat_le, Bool, true, false, not, ◌&&◌, cond, List, [], ◌∷◌, Option, Some, None, is_some, option_and_then, IfSome, unwrap_or, refl, ◌∙◌, arith}
+use Rattle.std.proofs.Common.{◌≡◌, ◌≤◌, ℕ, ◌+◌, nat_le, Bool, true, false, not, ◌&&◌, cond, List, [], ◌∷◌, Option, Some, None, is_some, option_and_then, option_map, IfSome, unwrap_or, refl, ◌∙◌, arith}
 use Rattle.std.specs.Prelude.{codes, filter_map}
 use Rattle.std.specs.List.{cons_option}
 use Rattle.std.proofs.lemmas.Bool.{and_parts, leb-true}
@@ -11,9 +11,10 @@ use Rattle.tool_words.proofs.Limits.{within_limits}
 use Rattle.spawn_strategies.specs.declared.numbers.Number.TheVariants as number
 use Rattle.spawn_strategies.specs.declared.said.Said.{Said}
 use Rattle.spawn_strategies.specs.declared.types.SpawnOptions.{SpawnOptions}
-use Rattle.spawn_strategies.specs.Choices.{are_different}
+use Rattle.spawn_strategies.specs.declared.types.Strategies.{Strategies}
+use Rattle.spawn_strategies.specs.Choices.{are_different, says_sandboxed, sandboxes as sandboxes_of}
 use Rattle.spawn_strategies.specs.SpawnWords.{number_in}
-use Rattle.spawn_strategies.specs.SpawnOptions.{AreSpawnLimits, fits_together, if_fitting, is_single, other_words, said_of, spawn_given, spawn_options_of, stands_once, with_options}
+use Rattle.spawn_strategies.specs.SpawnOptions.{AreGiven, AreSpawnLimits, fits_together, given_options, if_fitting, is_single, other_words, said_of, spawn_given, stands_once}
 
 -- ---- a number within its limits
 
@@ -66,33 +67,51 @@ different s single =
 abbrev said_with : List (List ℕ) → Options → SpawnOptions
 said_with words o = spawn_given o (said_of words)
 
-when_fitting : (words : List (List ℕ)) (o : Options) → is_single (said_of words) ≡ true → AreInLimits o → IfSome (if_fitting (said_with words o)) AreSpawnLimits
-when_fitting words o single limits = by (fits_together (said_with words o)) refl
+when_given : (words : List (List ℕ)) (o : Options) → is_single (said_of words) ≡ true → AreInLimits o → AreGiven (said_with words o)
+when_given words o single limits = record {
+  options = limits;
+  rules = different (said_of words) single;
+  some_sandboxed = (sandboxes words).0;
+  few_sandboxed = (sandboxes words).1;
+  delay = (delays words).1;
+}
+
+when_single : (words others : List (List ℕ)) → is_single (said_of words) ≡ true
+    → IfSome (option_map (λ o. said_with words o) (options_of others)) AreGiven
+when_single words others single = by (is_accepted others) refl
   where
-    by : (b : Bool) → fits_together (said_with words o) ≡ b → IfSome (cond b (Some (said_with words o)) None) AreSpawnLimits
+    by : (b : Bool) → is_accepted others ≡ b
+        → IfSome (option_map (λ o. said_with words o) (cond b (Some (given others)) None)) AreGiven
+    by true e = when_given words (given others) single (within_limits others e)
+    by false e = tt
+
+pub given_limits : (words : List (List ℕ)) → IfSome (given_options words) AreGiven
+given_limits words = by (is_single (said_of words)) refl
+  where
+    by : (b : Bool) → is_single (said_of words) ≡ b
+        → IfSome (cond b (option_map (λ o. said_with words o) (options_of (other_words words))) None) AreGiven
+    by true e = when_single words (other_words words) e
+    by false e = tt
+
+most_sandboxes : (words : Strategies) → sandboxes_of words ≤ words.sandboxed
+most_sandboxes words = elim (says_sandboxed words) as (λ b. cond b words.sandboxed 0 ≤ words.sandboxed) [ true ↦ omega arith | false ↦ omega arith ]
+
+when_fitting : (s : SpawnOptions) → AreGiven s → IfSome (if_fitting s) AreSpawnLimits
+when_fitting s given = by (fits_together s) refl
+  where
+    by : (b : Bool) → fits_together s ≡ b → IfSome (cond b (Some s) None) AreSpawnLimits
     by true e =
-        let both = o.remote + unwrap_or (first_of (filter_map (number_in number.Sandboxed) words)) 1 in
-        let parts = and_parts (not (is_some o.generate)) (nat_le both 16) e in
+        let both = s.options.remote + s.strategies.sandboxed in
+        let parts = and_parts (not (is_some s.options.generate)) (nat_le both 16) e in
+        let sum = leb-true both 16 parts.1 in
+        let wanted = most_sandboxes s.strategies in
+        let options = given.options in
         record {
-          options = limits;
-          has_list = limits.one_source ∙ parts.0;
-          rules = different (said_of words) single;
-          some_sandboxed = (sandboxes words).0;
-          few = leb-true both 16 parts.1;
-          delay = (delays words).1;
+          fitting = record { given = given; few = omega (arith, sum, wanted) };
+          has_list = options.one_source ∙ parts.0;
         }
     by false e = tt
 
-when_single : (words others : List (List ℕ)) → is_single (said_of words) ≡ true → IfSome (with_options (said_of words) (options_of others)) AreSpawnLimits
-when_single words others single = by (is_accepted others) refl
-  where
-    by : (b : Bool) → is_accepted others ≡ b → IfSome (with_options (said_of words) (cond b (Some (given others)) None)) AreSpawnLimits
-    by true e = when_fitting words (given others) single (within_limits others e)
-    by false e = tt
-
-pub spawn_limits : (words : List (List ℕ)) → IfSome (spawn_options_of words) AreSpawnLimits
-spawn_limits words = by (is_single (said_of words)) refl
-  where
-    by : (b : Bool) → is_single (said_of words) ≡ b → IfSome (cond b (with_options (said_of words) (options_of (other_words words))) None) AreSpawnLimits
-    by true e = when_single words (other_words words) e
-    by false e = tt
+pub fitting_limits : (o : Option SpawnOptions) → IfSome o AreGiven → IfSome (option_and_then if_fitting o) AreSpawnLimits
+fitting_limits None given = tt
+fitting_limits (Some s) given = when_fitting s given

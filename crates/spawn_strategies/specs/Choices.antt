@@ -1,12 +1,12 @@
 -- The plan of the chosen strategies: that of the list with the chosen strategies in place of the
 -- actions' own, with a group for the sandboxed actions.
-use Rattle.std.specs.Prelude.{◌≡◌, ℕ, ◌+◌, nat_le, Bool, true, false, not, ◌&&◌, if◌then◌else◌, min, List, [], ◌∷◌, ◌++◌, length, map, count_by, position, Option, Some, None, is_some, unwrap_or, Result, Ok, Err}
+use Rattle.std.specs.Prelude.{◌≡◌, ◌≤◌, ℕ, ◌+◌, nat_le, Bool, true, false, not, ◌&&◌, ◌||◌, if◌then◌else◌, min, List, [], ◌∷◌, ◌++◌, length, map, count_by, position, Option, Some, None, is_some, unwrap_or, Result, Ok, Err}
 use Rattle.std.specs.List.{list_any}
 use Rattle.std.specs.Str.{bytes_eq}
 use Rattle.run_plan.specs.declared.plan.Group.{Group}
 use Rattle.run_plan.specs.declared.plan.Plan.{Plan}
 use Rattle.run_plan.specs.declared.plan.PlanAction.{PlanAction}
-use Rattle.run_plan.specs.Limits.{most_local_berths}
+use Rattle.run_plan.specs.Limits.{most_actions, most_local_berths}
 use Rattle.list_actions.specs.declared.types.ListAction.{ListAction}
 use Rattle.list_actions.specs.declared.types.Strategy.{Strategy}
 use Rattle.list_actions.specs.declared.types.Strategy.TheVariants as strategy
@@ -16,6 +16,7 @@ use Rattle.spawn_strategies.specs.declared.types.ChoiceFault.{ChoiceFault}
 use Rattle.spawn_strategies.specs.declared.types.ChoiceFault.TheVariants as fault
 use Rattle.spawn_strategies.specs.declared.types.Name.{Name}
 use Rattle.spawn_strategies.specs.declared.types.Name.TheVariants as name
+use Rattle.spawn_strategies.specs.declared.types.PlanLimits.{PlanLimits}
 use Rattle.spawn_strategies.specs.declared.types.Rule.{Rule}
 use Rattle.spawn_strategies.specs.declared.types.Strategies.{Strategies}
 use Rattle.spawn_strategies.specs.Chosen.{chosen}
@@ -81,6 +82,25 @@ abbrev pub groups_by : List Group → List Name → ℕ → ℕ → List Group
 groups_by keyed ns sandboxed remote =
     keyed ++ (sandbox_groups sandboxed ns ++ remote_groups remote ns)
 
+-- ---- limits
+
+-- what a plan asks of its limits
+pub record AreLimits (l : PlanLimits) : Type 0 where
+  pub keys : l.keys ≤ most_actions
+  pub instances : l.instances ≤ most_local_berths
+  pub remote : 1 ≤ l.remote
+  pub retries : l.retries ≤ 9
+
+-- a list of names has `sandboxed`
+abbrev pub says_sandboxed : Strategies → Bool
+says_sandboxed words =
+    list_any is_sandboxed words.common
+    || list_any (λ r. list_any is_sandboxed r.names) words.rules
+
+-- the largest number of sandboxes: none where no list names them
+abbrev pub sandboxes : Strategies → ℕ
+sandboxes words = if says_sandboxed words then words.sandboxed else 0
+
 -- ---- the branches
 
 -- The branches of an action that is planned with its chosen strategy, where these are the numbers
@@ -119,18 +139,17 @@ abbrev pub unless_unsupported : {A : Type 0} → Option ℕ → Result A ChoiceF
 unless_unsupported (Some action) due = Err (fault.NoneSupports action)
 unless_unsupported None due = due
 
-abbrev pub unless_many : ℕ → Plan → Result Plan ChoiceFault
-unless_many keys p =
-    if nat_le keys most_local_berths then Ok p else Err (fault.TooManyKeys keys)
+abbrev pub unless_many : ℕ → ℕ → Plan → Result Plan ChoiceFault
+unless_many most keys p = if nat_le keys most then Ok p else Err (fault.TooManyKeys keys)
 
 -- The plan of the chosen strategies, or why there is none: an action that nothing supports goes
 -- before too many keys.
-unfoldable pub choice_of : List ListAction → Strategies → ℕ → ℕ → ℕ → Result Plan ChoiceFault
-choice_of xs words instances remote retries =
+unfoldable pub choice_of : List ListAction → Strategies → PlanLimits → Result Plan ChoiceFault
+choice_of xs words l =
     unless_unsupported (first_unsupported words xs)
-    (unless_many (length (keys_of (chosen_actions words xs)))
+    (unless_many l.keys (length (keys_of (chosen_actions words xs)))
     (plan_by (chosen_actions words xs) (chosen_names words xs)
-    instances words.sandboxed remote retries))
+    l.instances words.sandboxed l.remote l.retries))
 
 -- The answer is the one that is due. Lack of memory may always stand in its place.
 abbrev pub Refuses : {A : Type 0} → ChoiceFault → Result A ChoiceFault → Type 0

@@ -6,6 +6,7 @@ use Rattle.run_plan.specs.Groups.{is_remote}
 use Rattle.list_actions.specs.declared.types.ListAction.{ListAction}
 use Rattle.spawn_strategies.specs.declared.types.ChoiceFault.{ChoiceFault}
 use Rattle.spawn_strategies.specs.declared.types.Name.{Name}
+use Rattle.spawn_strategies.specs.declared.types.PlanLimits.{PlanLimits}
 use Rattle.spawn_strategies.specs.Choices.{all_placed, groups_by, sandbox_groups, unless_many, with_name}
 
 -- each of the actions by its name
@@ -27,6 +28,6 @@ placed_plan p ns sandboxed remote = record {
   limit = p.limit;
 }
 
-abbrev pub placing : Plan → List Name → ℕ → ℕ → Result Plan ChoiceFault
-placing p ns sandboxed remote =
-    unless_many (length (keyed p.groups)) (placed_plan p ns sandboxed remote)
+abbrev pub placing : Plan → List Name → ℕ → PlanLimits → Result Plan ChoiceFault
+placing p ns sandboxed l =
+    unless_many l.keys (length (keyed p.groups)) (placed_plan p ns sandboxed l.remote)

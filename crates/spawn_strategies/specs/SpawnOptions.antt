@@ -1,13 +1,13 @@
 -- Which words are accepted, and what they say. Their order doesn't matter, but for that of rules
 -- and of extra flags.
-use Rattle.std.specs.Prelude.{◌≡◌, ◌≤◌, ℕ, ◌+◌, ◌&&◌, Bool, true, not, if◌then◌else◌, nat_le, List, [], length, codes, filter, filter_map, Option, Some, None, is_some, unwrap_or}
+use Rattle.std.specs.Prelude.{◌≡◌, ◌≤◌, ℕ, ◌+◌, ◌&&◌, Bool, true, not, if◌then◌else◌, nat_le, List, [], length, codes, filter, filter_map, Option, Some, None, is_some, option_and_then, option_map, unwrap_or}
 use Rattle.run_plan.specs.Limits.{most_remote_berths}
 use Rattle.tool_words.specs.Options.{AreInLimits, first_of, options_of}
 use Rattle.tool_words.specs.declared.options.Options.{Options}
 use Rattle.spawn_strategies.specs.declared.numbers.Number.TheVariants as number
 use Rattle.spawn_strategies.specs.declared.said.Said.{Said}
 use Rattle.spawn_strategies.specs.declared.types.SpawnOptions.{SpawnOptions}
-use Rattle.spawn_strategies.specs.Choices.{are_different}
+use Rattle.spawn_strategies.specs.Choices.{are_different, sandboxes}
 use Rattle.spawn_strategies.specs.SpawnWords.{common_in, executor_in, is_taken, number_in, rule_in}
 
 -- all that these words say of strategies, sandboxes and the delay, in order
@@ -55,21 +55,31 @@ fits_together s =
 abbrev pub if_fitting : SpawnOptions → Option SpawnOptions
 if_fitting s = if fits_together s then Some s else None
 
-abbrev pub with_options : Said → Option Options → Option SpawnOptions
-with_options s None = None
-with_options s (Some o) = if_fitting (spawn_given o s)
-
--- the options that the words give, and none exactly where they aren't accepted
-abbrev pub spawn_options_of : List (List ℕ) → Option SpawnOptions
-spawn_options_of words =
-    if is_single (said_of words) then with_options (said_of words) (options_of (other_words words))
+-- the options that the words give, and none exactly where they can't be read
+abbrev pub given_options : List (List ℕ) → Option SpawnOptions
+given_options words =
+    if is_single (said_of words)
+    then option_map (λ o. spawn_given o (said_of words)) (options_of (other_words words))
     else None
 
--- what holds of all options that are given, as the plan of the chosen strategies asks it
-pub record AreSpawnLimits (s : SpawnOptions) : Type 0 where
+-- what holds of all options that words give
+pub record AreGiven (s : SpawnOptions) : Type 0 where
   pub options : AreInLimits s.options
-  pub has_list : is_some s.options.list ≡ true
   pub rules : are_different s.strategies.rules ≡ true
   pub some_sandboxed : 1 ≤ s.strategies.sandboxed
-  pub few : s.options.remote + s.strategies.sandboxed ≤ most_remote_berths
+  pub few_sandboxed : s.strategies.sandboxed ≤ most_remote_berths
   pub delay : s.local_delay ≤ 9999
+
+-- the options of a list with strategies, and none exactly where the words aren't accepted
+abbrev pub spawn_options_of : List (List ℕ) → Option SpawnOptions
+spawn_options_of words = option_and_then if_fitting (given_options words)
+
+-- what the plan of the chosen strategies asks: with the executors there are few sandboxes
+pub record AreFitting (s : SpawnOptions) : Type 0 where
+  pub given : AreGiven s
+  pub few : sandboxes s.strategies + s.options.remote ≤ most_remote_berths
+
+-- what holds of the options of a list with strategies
+pub record AreSpawnLimits (s : SpawnOptions) : Type 0 where
+  pub fitting : AreFitting s
+  pub has_list : is_some s.options.list ≡ true

@@ -12,6 +12,6 @@ mod types;
 
 pub use choosing::chosen;
 pub use placing::chosen_plan;
-pub use reading::read_spawn_words;
+pub use reading::{read_given_words, read_spawn_words};
 pub use said::other_words;
-pub use types::{ChoiceFault, Name, Rule, SpawnOptions, Strategies};
+pub use types::{ChoiceFault, Name, PlanLimits, Rule, SpawnOptions, Strategies};

@@ -3,16 +3,16 @@ ghost use Rattle.std.specs.Prelude.{◌≡◌, ◌+◌, ◌<◌, ◌≤◌, ◌^
 ghost use Rattle.list_actions.specs.Whole.{IsWhole};
 ghost use Rattle.run_plan.specs.Groups.{is_remote};
 ghost use Rattle.run_plan.specs.Sound.{Sound};
-ghost use Rattle.run_plan.specs.Limits.{most_actions, most_local_berths, most_remote_berths};
+ghost use Rattle.run_plan.specs.Limits.{most_actions, most_remote_berths};
 ghost use Rattle.action_list.specs.Plans.{executor_groups};
-ghost use Rattle.spawn_strategies.specs.Choices.{Answers, all_placed, are_different, choice_of, groups_by, is_sandboxed, placed, sandbox_groups, uses_executor};
+ghost use Rattle.spawn_strategies.specs.Choices.{Answers, AreLimits, all_placed, are_different, choice_of, groups_by, is_sandboxed, placed, sandbox_groups, sandboxes, uses_executor};
 ghost use Rattle.spawn_strategies.specs.Placing.{keyed, placing};
 
 use crate::copies::{chosen_names, with_names};
-use crate::types::{ChoiceFault, Name, Strategies};
+use crate::types::{ChoiceFault, Name, PlanLimits, Strategies};
 use action_list::{ActionList, plan};
 use plain_values::{Items, NoMemory};
-use run_plan::{Group, Kind, MOST_LOCAL_BERTHS, Plan, PlanAction};
+use run_plan::{Group, Kind, Plan, PlanAction};
 use std::alloc::Global;
 
 /// Returns the plan of a list whose actions run by their chosen strategies.
@@ -25,32 +25,33 @@ use std::alloc::Global;
 /// # Errors
 ///
 /// Returns `NoneSupports` exactly if no name of an action's list supports it, with the first such action. Otherwise
-/// returns `TooManyKeys` exactly if the actions whose chosen strategy is `Worker` or `Dynamic` have more than 48 keys.
-/// Returns `NoMemory` if memory runs out.
+/// returns `TooManyKeys` exactly if the actions whose chosen strategy is `Worker` or `Dynamic` have more than
+/// `limits.keys` keys. Returns `NoMemory` if memory runs out.
 pub fn chosen_plan(
     alloc: Global,
     list: &ActionList,
     words: &Strategies,
-    instances: u32,
-    remote: u32,
-    retries: u32,
+    limits: PlanLimits,
 ) -> Result<Plan, ChoiceFault>
     requires whole { IsWhole list.now.actions }
     requires rules { are_different words.now.rules ≡ true }
-    requires instances { instances ≤ most_local_berths }
-    requires some_remote { 1 ≤ remote }
+    requires limits { AreLimits limits }
     requires some_sandboxed { 1 ≤ words.now.sandboxed }
-    requires few { remote + words.now.sandboxed ≤ most_remote_berths }
-    requires retries { retries ≤ 9 }
-    ensures plan { Answers result
-        (choice_of list.now.actions words.now instances remote retries) }
+    requires few { sandboxes words.now + limits.remote ≤ most_remote_berths }
+    ensures plan { Answers result (choice_of list.now.actions words.now limits) }
     ensures sound { IfOk result Sound }
 {
     let actions = list.actions.as_slice();
     let names = chosen_names(alloc, words, actions)?;
     let chosen = with_names(alloc, actions, names.as_slice())?;
-    let planned = plan(alloc, &chosen, instances, remote, retries)?;
-    placed_plan(alloc, planned, names.as_slice(), words.sandboxed, remote)
+    let planned = plan(
+        alloc,
+        &chosen,
+        limits.instances,
+        limits.remote,
+        limits.retries,
+    )?;
+    placed_plan(alloc, planned, names.as_slice(), words.sandboxed, limits)
 }
 
 // Returns the plan with its actions placed by their names, unless it has too many keys.
@@ -59,21 +60,22 @@ fn placed_plan(
     plan: Plan,
     names: &[Name],
     sandboxed: u32,
-    remote: u32,
+    limits: PlanLimits,
 ) -> Result<Plan, ChoiceFault>
     requires named { length names.now ≡ length plan.actions }
     requires few { length names.now ≤ most_actions }
     requires groups { length plan.groups < 2 ^ 32 }
-    ensures { Answers result (placing plan names.now sandboxed remote) }
+    requires limits { AreLimits limits }
+    ensures { Answers result (placing plan names.now sandboxed limits) }
 {
     let mut groups = keyed(alloc, plan.groups.as_slice())?;
     let sandbox = groups.len() as u32;
-    if sandbox > MOST_LOCAL_BERTHS {
+    if sandbox > limits.keys {
         return Err(ChoiceFault::TooManyKeys(sandbox));
     }
     push_remote(&mut groups, sandboxed.min(sandbox_users(names)))?;
     let executor = groups.len() as u32;
-    push_remote(&mut groups, remote.min(executor_users(names)))?;
+    push_remote(&mut groups, limits.remote.min(executor_users(names)))?;
     Ok(Plan {
         actions: all_placed(plan.actions, names, sandbox, executor),
         groups: Items::of(groups),
@@ -133,7 +135,8 @@ fn executor_users(names: &[Name]) -> u32
 }
 
 impl Name {
-    fn is_sandboxed(self) -> bool
+    /// Returns true if this is `Sandboxed`.
+    pub fn is_sandboxed(self) -> bool
         ensures { result ≡ is_sandboxed self }
     {
         match self {

@@ -1,7 +1,7 @@
 // The options that the words of a command give, with strategies.
 ghost use Rattle.std.specs.Prelude.{◌≡◌, IfOk, IfSome, codes, map, string_bytes, unwrap_or};
 ghost use Rattle.tool_words.specs.Options.{first_of};
-ghost use Rattle.spawn_strategies.specs.SpawnOptions.{AreSpawnLimits, fits_together, if_fitting, spawn_given, spawn_options_of};
+ghost use Rattle.spawn_strategies.specs.SpawnOptions.{AreGiven, AreSpawnLimits, fits_together, given_options, if_fitting, spawn_given, spawn_options_of};
 
 use crate::said::{Said, other_words};
 use crate::types::{SpawnOptions, Strategies};
@@ -10,20 +10,11 @@ use run_plan::MOST_REMOTE_BERTHS;
 use std::alloc::Global;
 use tool_words::{Options, read_words};
 
-/// Returns the options that these words give, the words after the program's name. Returns `None` exactly if the words
-/// aren't accepted.
+/// Returns the options of a list with strategies. `words` are the words after the program's name. Returns `None` exactly
+/// if the words aren't accepted.
 ///
-/// A word is one of the following.
-///
-/// - `--strategy=M=LIST`, at most once for each mnemonic M
-/// - `--spawn_strategy=LIST`, at most once
-/// - `--sandboxed=N` with N from 1 to 16, at most once
-/// - `--sandbox_executor=TEXT`, at most once
-/// - `--local_delay=N` with N from 0 to 9999, at most once
-/// - a word of `tool_words::read_words`, except `--generate`
-///
-/// M isn't empty and has no `=`. LIST is one to four different names of `worker`, `sandboxed`, `remote` and `dynamic`,
-/// joined by commas. The numbers of `--remote` and `--sandboxed` add up to 16 at most.
+/// They are the words of `read_given_words`. They name a list, which isn't generated, and the numbers of `--remote` and
+/// `--sandboxed` add up to 16 at most.
 ///
 /// # Errors
 ///
@@ -32,6 +23,31 @@ pub fn read_spawn_words(alloc: Global, words: &[String]) -> Result<Option<SpawnO
     ensures words { IfOk result (λ o. o ≡ spawn_options_of (map string_bytes words.now)) }
     ensures limits { IfOk result (λ o. IfSome o AreSpawnLimits) }
 {
+    Ok(read_given_words(alloc, words)?.and_then(if_fitting))
+}
+
+/// Returns the options that these words give, the words after the program's name. Returns `None` exactly if the words
+/// can't be read.
+///
+/// A word is one of the following.
+///
+/// - `--strategy=M=LIST`, at most once for each mnemonic M
+/// - `--spawn_strategy=LIST`, at most once
+/// - `--sandboxed=N` with N from 1 to 16, at most once
+/// - `--sandbox_executor=TEXT`, at most once
+/// - `--local_delay=N` with N from 0 to 9999, at most once
+/// - a word of `tool_words::read_words`
+///
+/// M isn't empty and has no `=`. LIST is one to four different names of `worker`, `sandboxed`, `remote` and `dynamic`,
+/// joined by commas.
+///
+/// # Errors
+///
+/// Returns `NoMemory` if memory runs out.
+pub fn read_given_words(alloc: Global, words: &[String]) -> Result<Option<SpawnOptions>, NoMemory>
+    ensures words { IfOk result (λ o. o ≡ given_options (map string_bytes words.now)) }
+    ensures limits { IfOk result (λ o. IfSome o AreGiven) }
+{
     let said = Said::of(alloc, words)?;
     if !said.is_single() {
         return Ok(None);
@@ -39,7 +55,7 @@ pub fn read_spawn_words(alloc: Global, words: &[String]) -> Result<Option<SpawnO
     let others = other_words(alloc, words)?;
     match read_words(alloc, others.as_slice())? {
         None => Ok(None),
-        Some(options) => Ok(if_fitting(spawn_given(alloc, options, said)?)),
+        Some(options) => Ok(Some(spawn_given(alloc, options, said)?)),
     }
 }
 

@@ -48,12 +48,25 @@ pub struct SpawnOptions {
     pub local_delay: u32,
 }
 
+/// The limits of a plan.
+#[derive(Clone, Copy)]
+pub struct PlanLimits {
+    /// The largest number of worker keys, at most 4,096.
+    pub keys: u32,
+    /// The largest number of berths of a worker key, at most 48. It is 0 if the keys share their berths.
+    pub instances: u32,
+    /// The largest number of executors, at least 1.
+    pub remote: u32,
+    /// The largest number of retries of an action, at most 9.
+    pub retries: u32,
+}
+
 /// The reason that the chosen strategies yield no plan.
 #[derive(Clone, Copy, Debug, PartialEq, Eq)]
 pub enum ChoiceFault {
     /// No name in the list of the action with this number supports it.
     NoneSupports(u32),
-    /// This many worker keys, more than 48.
+    /// This many worker keys, more than the plan may have.
     TooManyKeys(u32),
     NoMemory,
 }

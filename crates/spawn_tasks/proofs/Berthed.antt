@@ -16,10 +16,10 @@ use Rattle.run_tasks.proofs.Berths.{first_berth}
 use Rattle.spawn_strategies.specs.declared.types.Name.{Name}
 use Rattle.spawn_strategies.specs.declared.types.Name.TheVariants as name
 use Rattle.spawn_strategies.specs.declared.types.SpawnOptions.{SpawnOptions}
-use Rattle.spawn_strategies.specs.Choices.{choice_of, chosen_actions, chosen_names, first_unsupported, groups_by, is_sandboxed, key_groups, name_of, plan_by, remote_groups, sandbox_groups, strategy_by, uses_executor, with_name}
-use Rattle.spawn_strategies.specs.SpawnOptions.{AreSpawnLimits}
+use Rattle.spawn_strategies.specs.Choices.{AreLimits, choice_of, chosen_actions, chosen_names, first_unsupported, groups_by, is_sandboxed, key_groups, name_of, plan_by, remote_groups, sandbox_groups, strategy_by, uses_executor, with_name}
+use Rattle.spawn_strategies.specs.SpawnOptions.{AreFitting, AreGiven}
 use Rattle.spawn_strategies.proofs.Plans.{answered}
-use Rattle.spawn_tasks.specs.Tasks.{choice_by}
+use Rattle.spawn_tasks.specs.Tasks.{choice_by, own_limits}
 
 abbrev sum : List Group → ℕ
 sum gs = sum_by (λ g. g.berths) gs
@@ -99,7 +99,16 @@ module _ (f : ListAction → Name) where
       absurd (let one = some_berth x rest instances sandboxed remote some some_s some_r few in
       omega (arith, one, none))
 
-pub has_berths : (o : SpawnOptions) (xs : List ListAction) (p : Plan) → AreSpawnLimits o
+-- the plan may be made by these limits
+pub are_own_limits : (o : SpawnOptions) → AreGiven o → AreLimits (own_limits o)
+are_own_limits o given = record {
+  keys = omega arith;
+  instances = given.options.instances.1;
+  remote = given.options.remote.0;
+  retries = given.options.retries;
+}
+
+pub has_berths : (o : SpawnOptions) (xs : List ListAction) (p : Plan) → AreFitting o
     → choice_by o xs ≡ Ok p → HasBerths p
 unfolding choice_of
 has_berths o xs p limits e =
@@ -107,8 +116,8 @@ has_berths o xs p limits e =
     let own = o.options in
     let due = plan_by (chosen_actions words xs) (chosen_names words xs) own.instances
     words.sandboxed own.remote own.retries in
-    let is = answered (first_unsupported words xs) (length (keys_of (chosen_actions words xs))) due
+    let is = answered (first_unsupported words xs) 48 (length (keys_of (chosen_actions words xs))) due
     p e in
     subst HasBerths is.1
     (planned (name_of words) xs own.instances words.sandboxed own.remote own.retries
-    limits.options.instances.0 limits.some_sandboxed limits.options.remote.0 is.0)
+    limits.given.options.instances.0 limits.given.some_sandboxed limits.given.options.remote.0 is.0)

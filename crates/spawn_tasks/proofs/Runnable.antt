@@ -1,10 +1,10 @@
 -- Each group that a branch of the plan of the chosen strategies names has a berth.
-use Rattle.std.proofs.Common.{◌≡◌, ℕ, ◌+◌, ◌<◌, ◌≤◌, List, [], ◌∷◌, ◌++◌, length, map, min, get_or, Some, Ok, slice_get, true, refl, sym, ap, subst, ◌∙◌, arith}
+use Rattle.std.proofs.Common.{◌≡◌, ℕ, ◌+◌, ◌<◌, ◌≤◌, List, [], ◌++◌, length, map, min, get_or, Some, Ok, slice_get, true, refl, sym, ap, subst, ◌∙◌, arith}
 use Rattle.std.specs.Prelude.{count_by}
 use Rattle.std.proofs.lemmas.List.{length-map}
 use Rattle.std.proofs.lemmas.Option.{slice_get-get_or, slice_get_within}
 use Rattle.action_list.specs.Keys.{keys_of}
-use Rattle.action_list.specs.Plans.{executor_groups, plan_actions}
+use Rattle.action_list.specs.Plans.{plan_actions}
 use Rattle.run_values.specs.Runnable.{EachHasBerth}
 use Rattle.list_actions.specs.declared.types.ListAction.{ListAction}
 use Rattle.run_plan.specs.declared.plan.Branch.{Branch}
@@ -18,7 +18,7 @@ use Rattle.spawn_strategies.specs.declared.types.Name.{Name}
 use Rattle.spawn_strategies.specs.declared.types.Name.TheVariants as name
 use Rattle.spawn_strategies.specs.declared.types.SpawnOptions.{SpawnOptions}
 use Rattle.spawn_strategies.specs.Choices.{choice_of, chosen_actions, chosen_names, first_unsupported, groups_by, is_sandboxed, key_groups, name_of, placed, plan_by, remote_groups, sandbox_groups, uses_executor, with_name}
-use Rattle.spawn_strategies.specs.SpawnOptions.{AreSpawnLimits}
+use Rattle.spawn_strategies.specs.SpawnOptions.{AreFitting}
 use Rattle.spawn_strategies.proofs.Placed.{length-all_placed}
 use Rattle.spawn_strategies.proofs.Plans.{answered, length-key_groups, length-plan_actions}
 use Rattle.spawn_tasks.specs.Tasks.{choice_by}
@@ -139,7 +139,7 @@ module _ (f : ListAction → Name) (xs : List ListAction)
       (branches f (keys_of ys) [] xs a n.0 z.0 n.1 z.1) b g
       (ap (λ (v : PlanAction). group_of v b) z.2 ∙ is))
 
-pub each_has_berth : (o : SpawnOptions) (xs : List ListAction) (p : Plan) → AreSpawnLimits o
+pub each_has_berth : (o : SpawnOptions) (xs : List ListAction) (p : Plan) → AreFitting o
     → choice_by o xs ≡ Ok p → EachHasBerth p
 unfolding choice_of
 each_has_berth o xs p limits e =
@@ -147,8 +147,8 @@ each_has_berth o xs p limits e =
     let own = o.options in
     let due = plan_by (chosen_actions words xs) (chosen_names words xs) own.instances
     words.sandboxed own.remote own.retries in
-    let is = answered (first_unsupported words xs) (length (keys_of (chosen_actions words xs))) due
+    let is = answered (first_unsupported words xs) 48 (length (keys_of (chosen_actions words xs))) due
     p e in
     subst EachHasBerth is.1
     (runnable (name_of words) xs own.instances words.sandboxed own.remote own.retries
-    limits.options.instances.0 limits.some_sandboxed limits.options.remote.0 is.0)
+    limits.given.options.instances.0 limits.given.some_sandboxed limits.given.options.remote.0 is.0)

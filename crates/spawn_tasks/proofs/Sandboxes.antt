@@ -201,18 +201,18 @@ sandbox_law o xs p a group n y h is_group =
     let ys = chosen_actions words xs in
     let ns = chosen_names words xs in
     let sandboxed = words.sandboxed in
-    let due = plan_by ys ns o.options.instances sandboxed o.options.remote o.options.retries in
-    let is = (answered (first_unsupported words xs) (length (keys_of ys)) due p h.chosen).1 in
+    let due = plan_by ys ns h.limits.instances sandboxed h.limits.remote h.limits.retries in
+    let is = (answered (first_unsupported words xs) h.limits.keys (length (keys_of ys)) due p h.chosen).1 in
     let own_group = ap (λ (q : Plan). sandbox_group q.groups ns) is ∙ is_group in
     let own_action = ap (λ (q : Plan). slice_get q.actions a) is ∙ h.action in
-    let some = h.limits.some_sandboxed in
-    let place = is_behind ys ns o.options.instances sandboxed o.options.remote group some
+    let some = h.given.some_sandboxed in
+    let place = is_behind ys ns h.limits.instances sandboxed h.limits.remote group some
     own_group in
     let keys = length (keys_of ys) in
     let executor = keys + length (sandbox_groups sandboxed ns) in
     let z = placed_at keys executor ns (plan_actions (keys_of ys) [] ys) a n y h.named own_action in
     let less : keys < executor =
-    let e = ap length (one ys ns o.options.instances sandboxed o.options.remote some place.0) in
+    let e = ap length (one ys ns h.limits.instances sandboxed h.limits.remote some place.0) in
     omega (arith, e) in
     subst (λ k. RunsBy k n y) (sym place.1)
     (subst (λ (v : PlanAction). RunsBy keys n v) z.2
@@ -225,13 +225,13 @@ has_group_law o xs p a y h =
     let words = o.strategies in
     let ys = chosen_actions words xs in
     let ns = chosen_names words xs in
-    let due = plan_by ys ns o.options.instances words.sandboxed o.options.remote
-    o.options.retries in
-    let is = (answered (first_unsupported words xs) (length (keys_of ys)) due p h.chosen).1 in
+    let due = plan_by ys ns h.limits.instances words.sandboxed h.limits.remote
+    h.limits.retries in
+    let is = (answered (first_unsupported words xs) h.limits.keys (length (keys_of ys)) due p h.chosen).1 in
     let any = any_of ns a h.named in (
       length (keys_of ys),
       ap (λ (q : Plan). sandbox_group q.groups ns) (sym is)
           ∙ ap (λ b. cond b (position runs_jobs due.groups) None) any
-          ∙ at_keys ys ns o.options.instances words.sandboxed o.options.remote
-          h.limits.some_sandboxed any,
+          ∙ at_keys ys ns h.limits.instances words.sandboxed h.limits.remote
+          h.given.some_sandboxed any,
     )

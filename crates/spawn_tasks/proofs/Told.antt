@@ -25,13 +25,13 @@ use Rattle.run_plan.specs.Sound.{Sound}
 use Rattle.run_tasks.specs.Tasks.{HasBerths, HasSettings, SpeechesFit}
 use Rattle.spawn_strategies.specs.declared.types.ChoiceFault.{ChoiceFault}
 use Rattle.spawn_strategies.specs.declared.types.SpawnOptions.{SpawnOptions}
-use Rattle.spawn_strategies.specs.SpawnOptions.{AreSpawnLimits}
+use Rattle.spawn_strategies.specs.SpawnOptions.{AreFitting}
 use Rattle.spawn_strategies.proofs.Sounds.{sound_answer}
 use Rattle.spawn_tasks.specs.declared.faults.NoSpawn.TheVariants as no
 use Rattle.spawn_tasks.specs.declared.tasks.SpawnTask.{SpawnTask}
 use Rattle.spawn_tasks.specs.Course.{ChoiceLeads, ListLeads, Made, PlanLeads, SpawnCourse, UnlessMemory}
-use Rattle.spawn_tasks.specs.Tasks.{IsSpawnTask, MayBeSpawned, choice_by, parts_by}
-use Rattle.spawn_tasks.proofs.Berthed.{has_berths}
+use Rattle.spawn_tasks.specs.Tasks.{IsSpawnTask, MayBeSpawned, choice_by, own_limits, parts_by}
+use Rattle.spawn_tasks.proofs.Berthed.{are_own_limits, has_berths}
 use Rattle.spawn_tasks.proofs.Placing.{are_parts, fits}
 use Rattle.spawn_tasks.proofs.Runnable.{each_has_berth}
 use Rattle.spawn_tasks.proofs.Worked.{works}
@@ -70,13 +70,12 @@ module _ (keys : ℕ) (loaded : Loaded) where
 
 -- ---- what a run asks
 
-module _ (o : SpawnOptions) (limits : AreSpawnLimits o) (list : ActionList)
+module _ (o : SpawnOptions) (limits : AreFitting o) (list : ActionList)
     (whole : IsWhole list.actions) (work : Work) (loaded : IsLoaded list work) where
   sound : (p : Plan) → choice_by o list.actions ≡ Ok p → Sound p
   sound p chosen =
-      sound_answer list.actions o.strategies o.options.instances o.options.remote
-      o.options.retries (Ok p) limits.some_sandboxed limits.options.remote.0 limits.few
-      limits.options.retries whole chosen
+      sound_answer list.actions o.strategies (own_limits o) (Ok p) limits.given.some_sandboxed
+      limits.few (are_own_limits o limits.given) whole chosen
 
   settled : (p : Plan) (made : SpawnTask) → IsSpawnTask o list.actions p made
       → HasSettings made.task
@@ -99,10 +98,10 @@ module _ (o : SpawnOptions) (limits : AreSpawnLimits o) (list : ActionList)
         berths = subst HasBerths same (has_berths o list.actions p limits chosen);
         runnable = subst EachHasBerth same (each_has_berth o list.actions p limits chosen);
         work = subst (λ (q : Plan). IsWorkOf q made.task.work.actions)
-            same (works o list.actions whole loaded.files work.actions loaded.loaded p
-            made.task.work.actions chosen h.1);
+            same (works o list.actions whole loaded.files work.actions loaded.loaded
+            (own_limits o) p made.task.work.actions chosen h.1);
         settings = settled p made is;
-        delay = subst (λ d. d ≤ 9999) (sym is.delay) limits.delay;
+        delay = subst (λ d. d ≤ 9999) (sym is.delay) limits.given.delay;
       }
 
   by_choice : (made : SpawnTask) (due : Result Plan ChoiceFault) → choice_by o list.actions ≡ due

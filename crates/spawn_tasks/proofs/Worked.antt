@@ -18,11 +18,11 @@ use Rattle.run_plan.specs.declared.plan.Plan.{Plan}
 use Rattle.run_plan.specs.declared.plan.PlanAction.{PlanAction}
 use Rattle.run_tasks.proofs.Works.{all_work}
 use Rattle.spawn_strategies.specs.declared.types.Name.{Name}
+use Rattle.spawn_strategies.specs.declared.types.PlanLimits.{PlanLimits}
 use Rattle.spawn_strategies.specs.declared.types.SpawnOptions.{SpawnOptions}
 use Rattle.spawn_strategies.specs.Choices.{all_placed, choice_of, chosen_actions, chosen_names, first_unsupported, name_of, plan_by, sandbox_groups, with_name}
 use Rattle.spawn_strategies.proofs.Placed.{makers_kept, outputs_kept}
 use Rattle.spawn_strategies.proofs.Plans.{answered}
-use Rattle.spawn_tasks.specs.Tasks.{choice_by}
 use Rattle.spawn_tasks.specs.Wording.{all_worded, lacks_words, own_words, with_request, worded}
 use Rattle.spawn_tasks.proofs.Worded.{AreAsMany, rest_as_many}
 
@@ -158,17 +158,16 @@ module _ (o : SpawnOptions) (xs : List ListAction) (whole : IsWhole xs) (files :
         ∙ length-map xs (due_work (maker_of xs) files);
   }
 
-  pub works : (p : Plan) (vs : List WorkAction) → choice_by o xs ≡ Ok p
+  pub works : (l : PlanLimits) (p : Plan) (vs : List WorkAction) → choice_of xs o.strategies l ≡ Ok p
       → all_worded (chosen_names o.strategies xs) xs ws ≡ map (λ w. Ok w) vs
       → IsWorkOf p vs
   unfolding choice_of
-  works p vs chosen worded_all =
+  works l p vs chosen worded_all =
       let words = o.strategies in
       let ys = chosen_actions words xs in
       let ns = chosen_names words xs in
-      let due = plan_by ys ns o.options.instances words.sandboxed o.options.remote
-      o.options.retries in
-      let is = answered (first_unsupported words xs) (length (keys_of ys)) due p chosen in
+      let due = plan_by ys ns l.instances words.sandboxed l.remote l.retries in
+      let is = answered (first_unsupported words xs) l.keys (length (keys_of ys)) due p chosen in
       let loaded_plan = plan_actions (keys_of xs) [] xs in
       let alike : map seen due.actions ≡ map seen loaded_plan =
       placed_alike (length (keys_of ys))

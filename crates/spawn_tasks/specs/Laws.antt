@@ -5,10 +5,11 @@ use Rattle.run_plan.specs.declared.plan.Plan.{Plan}
 use Rattle.run_plan.specs.declared.plan.PlanAction.{PlanAction}
 use Rattle.spawn_strategies.specs.declared.types.Name.{Name}
 use Rattle.spawn_strategies.specs.declared.types.Name.TheVariants as name
+use Rattle.spawn_strategies.specs.declared.types.PlanLimits.{PlanLimits}
 use Rattle.spawn_strategies.specs.declared.types.SpawnOptions.{SpawnOptions}
-use Rattle.spawn_strategies.specs.Choices.{chosen_names}
-use Rattle.spawn_strategies.specs.SpawnOptions.{AreSpawnLimits}
-use Rattle.spawn_tasks.specs.Tasks.{choice_by, sandbox_group}
+use Rattle.spawn_strategies.specs.Choices.{choice_of, chosen_names}
+use Rattle.spawn_strategies.specs.SpawnOptions.{AreGiven}
+use Rattle.spawn_tasks.specs.Tasks.{sandbox_group}
 
 -- it runs there alone
 pub record IsOn (group : ℕ) (y : PlanAction) : Type 0 where
@@ -26,11 +27,12 @@ RunsBy group name.Sandboxed y = IsOn group y
 RunsBy group name.Remote y = IsOff group y
 RunsBy group name.Dynamic y = IsOff group y
 
--- Of this plan the action a has this name and these branches.
+-- Of this plan, whatever its limits, the action a has this name and these branches.
 pub record IsNamed (o : SpawnOptions) (xs : List ListAction) (p : Plan) (a : ℕ) (n : Name)
     (y : PlanAction) : Type 0 where
-  pub limits : AreSpawnLimits o
-  pub chosen : choice_by o xs ≡ Ok p
+  pub given : AreGiven o
+  pub limits : PlanLimits
+  pub chosen : choice_of xs o.strategies limits ≡ Ok p
   pub named : slice_get (chosen_names o.strategies xs) a ≡ Some n
   pub action : slice_get p.actions a ≡ Some y
 

@@ -8,19 +8,29 @@ use Rattle.list_actions.specs.declared.types.ListAction.{ListAction}
 use Rattle.run_plan.specs.declared.plan.Group.{Group}
 use Rattle.run_plan.specs.declared.plan.Plan.{Plan}
 use Rattle.run_plan.specs.Groups.{is_remote}
+use Rattle.run_plan.specs.Limits.{most_local_berths}
 use Rattle.run_plan.specs.Sound.{Sound}
 use Rattle.run_tasks.specs.Setup.{commands_for, speeches_for}
 use Rattle.run_tasks.specs.Tasks.{HasBerths, HasSettings, HasWork}
 use Rattle.spawn_strategies.specs.declared.types.ChoiceFault.{ChoiceFault}
 use Rattle.spawn_strategies.specs.declared.types.Name.{Name}
+use Rattle.spawn_strategies.specs.declared.types.PlanLimits.{PlanLimits}
 use Rattle.spawn_strategies.specs.declared.types.SpawnOptions.{SpawnOptions}
 use Rattle.spawn_strategies.specs.Choices.{choice_of, chosen_names, is_sandboxed}
 use Rattle.spawn_tasks.specs.declared.tasks.SpawnTask.{SpawnTask}
 
+-- the limits of a plan whose worker keys have berths of their own
+abbrev pub own_limits : SpawnOptions → PlanLimits
+own_limits o = record {
+  keys = most_local_berths;
+  instances = o.options.instances;
+  remote = o.options.remote;
+  retries = o.options.retries;
+}
+
 -- the plan of the chosen strategies, or why there is none
 abbrev pub choice_by : SpawnOptions → List ListAction → Result Plan ChoiceFault
-choice_by o xs =
-    choice_of xs o.strategies o.options.instances o.options.remote o.options.retries
+choice_by o xs = choice_of xs o.strategies (own_limits o)
 
 -- The group of the sandboxed actions, where there are any: it is the first of kind Remote, right
 -- behind those of the worker keys.

@@ -65,16 +65,7 @@ fn first_remote(groups: &[Group]) -> Option<usize>
 fn any_sandboxed(names: &[Name]) -> bool
     ensures { result ≡ list_any is_sandboxed names.now }
 {
-    names.iter().any(|name| is_sandboxed(*name))
-}
-
-fn is_sandboxed(name: Name) -> bool
-    ensures { result ≡ is_sandboxed name }
-{
-    match name {
-        Name::Sandboxed => true,
-        Name::Worker | Name::Remote | Name::Dynamic => false,
-    }
+    names.iter().any(|name| name.is_sandboxed())
 }
 
 fn is_remote(kind: Kind) -> bool

@@ -3,7 +3,7 @@ ghost use Rattle.std.specs.Prelude.{◌≡◌, IfOk, length};
 ghost use Rattle.list_actions.specs.Whole.{IsWhole};
 ghost use Rattle.run_plan.specs.Sound.{Sound};
 ghost use Rattle.spawn_strategies.specs.Choices.{Answers, chosen_names};
-ghost use Rattle.spawn_strategies.specs.SpawnOptions.{AreSpawnLimits};
+ghost use Rattle.spawn_strategies.specs.SpawnOptions.{AreFitting};
 ghost use Rattle.spawn_tasks.specs.Course.{ListLeads, UnlessMemory};
 ghost use Rattle.spawn_tasks.specs.Tasks.{IsSpawnTask, choice_by};
 
@@ -13,9 +13,11 @@ use crate::wording::reworded;
 use action_list::{ActionList, ListAction, plan_again};
 use plain_values::NoMemory;
 use remote_messages::Work;
-use run_plan::Plan;
+use run_plan::{MOST_LOCAL_BERTHS, Plan};
 use run_tasks::{Task, commands_of, speeches_of};
-use spawn_strategies::{ChoiceFault, Name, SpawnOptions, Strategies, chosen, chosen_plan};
+use spawn_strategies::{
+    ChoiceFault, Name, PlanLimits, SpawnOptions, Strategies, chosen, chosen_plan,
+};
 use std::alloc::Global;
 
 /// The task that a list yields under the chosen strategies, before its lanes are started.
@@ -42,7 +44,7 @@ pub fn spawn_task_of(
     list: &ActionList,
     work: Work,
 ) -> Result<SpawnTask, NoSpawn>
-    requires options { AreSpawnLimits options.now }
+    requires options { AreFitting options.now }
     requires list { IsWhole list.now.actions }
     requires worked { length work.actions ≡ length list.now.actions }
     ensures { UnlessMemory result (ListLeads options.now list.now.actions work.actions result) }
@@ -56,20 +58,19 @@ pub fn spawn_task_of(
 
 // Returns the plan of the chosen strategies.
 fn plan_by(alloc: Global, options: &SpawnOptions, list: &ActionList) -> Result<Plan, ChoiceFault>
-    requires options { AreSpawnLimits options.now }
+    requires options { AreFitting options.now }
     requires list { IsWhole list.now.actions }
     ensures plan { Answers result (choice_by options.now list.now.actions) }
     ensures sound { IfOk result Sound }
 {
     let own = &options.options;
-    chosen_plan(
-        alloc,
-        list,
-        &options.strategies,
-        own.instances,
-        own.remote,
-        own.retries,
-    )
+    let limits = PlanLimits {
+        keys: MOST_LOCAL_BERTHS,
+        instances: own.instances,
+        remote: own.remote,
+        retries: own.retries,
+    };
+    chosen_plan(alloc, list, &options.strategies, limits)
 }
 
 // Returns the chosen name of each action. If there is a plan, each action has one, and the default is unused.

@@ -27,8 +27,8 @@ plan-requires-clause-whole c =
 pub placed_plan-requires-clause-named : goal.placed_plan-requires-clause-named
 placed_plan-requires-clause-named c =
     rw c.as_slice-2.ensures
-    (names_enough c.args.list.now.actions c.args.words.now c.args.instances c.args.remote
-    c.args.retries c.in_ok-planned.planned c.in_ok-chosen.chosen.actions c.in_ok-names.names
+    (names_enough c.args.list.now.actions c.args.words.now c.args.limits
+    c.in_ok-planned.planned c.in_ok-chosen.chosen.actions c.in_ok-names.names
     (rw c.as_slice-actions.ensures at c.in_ok-names.ensures)
     (rw (c.as_slice.ensures, c.as_slice-actions.ensures) at c.in_ok-chosen.ensures)
     c.in_ok-planned.ensures.plan)
@@ -36,8 +36,8 @@ placed_plan-requires-clause-named c =
 pub returns-clause-plan : goal.returns-clause-plan
 returns-clause-plan c =
     subst (λ due. Answers c.placed_plan.result due)
-    (choice_is c.args.list.now.actions c.args.words.now c.args.instances c.args.remote
-    c.args.retries c.in_ok-planned.planned c.in_ok-chosen.chosen.actions c.in_ok-names.names
+    (choice_is c.args.list.now.actions c.args.words.now c.args.limits
+    c.in_ok-planned.planned c.in_ok-chosen.chosen.actions c.in_ok-names.names
     (rw c.as_slice-actions.ensures at c.in_ok-names.ensures)
     (rw (c.as_slice.ensures, c.as_slice-actions.ensures) at c.in_ok-chosen.ensures)
     c.in_ok-planned.ensures.plan)
@@ -45,6 +45,6 @@ returns-clause-plan c =
 
 pub returns-clause-sound : goal.returns-clause-sound
 returns-clause-sound c =
-    sound_answer c.args.list.now.actions c.args.words.now c.args.instances c.args.remote
-    c.args.retries c.placed_plan.result c.requires.some_sandboxed c.requires.some_remote
-    c.requires.few c.requires.retries c.requires.whole (returns-clause-plan c)
+    sound_answer c.args.list.now.actions c.args.words.now c.args.limits
+    c.placed_plan.result c.requires.some_sandboxed c.requires.few c.requires.limits
+    c.requires.whole (returns-clause-plan c)

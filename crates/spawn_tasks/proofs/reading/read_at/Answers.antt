@@ -8,5 +8,5 @@ returns-clause-runs g c =
     let loaded = c.in_ok-list.field-0 in
     let is = is_loaded most_keys loaded c.args.path.now (told c.args.floor.now)
     (told c.load.new.floor) c.in_ok-list.ensures.course in
-    may_be_spawned c.args.options.now c.requires loaded.list c.in_ok-list.ensures.whole loaded.work
+    may_be_spawned c.args.options.now c.requires.fitting loaded.list c.in_ok-list.ensures.whole loaded.work
     is c.spawn_task_of.result c.spawn_task_of.ensures
