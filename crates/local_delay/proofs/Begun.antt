@@ -10,7 +10,7 @@ use Rattle.run_plan.specs.Sound.{Sound}
 use Rattle.exec_journal.specs.Attempts.{attempt}
 use Rattle.exec_journal.proofs.Ruled.{by_bool}
 use Rattle.list_lemmas.proofs.Updates.{get_replicate}
-use Rattle.delay_rules.specs.Delayed.{ticks_since}
+use Rattle.placed_rules.specs.Due.{ticks_since}
 use Rattle.local_delay.specs.Choices.{first_mark, may_wait}
 use Rattle.local_delay.specs.Counts.{Facts, capped}
 use Rattle.local_delay.specs.Stands.{IsHeld, StandsFor}

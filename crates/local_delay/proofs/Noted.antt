@@ -1,5 +1,5 @@
 -- What a call makes of the table: after it the table stands for the journal with its entry.
-use Rattle.std.proofs.Common.{◌≡◌, ℕ, ◌+◌, ◌<◌, ◌≤◌, ◌==◌, nat_le, nat_lt, subst, Bool, true, false, ◌&&◌, cond, List, ◌∷◌, length, Option, Some, None, option_map, unwrap_or, refl, ap, sym, ◌∙◌, arith}
+use Rattle.std.proofs.Common.{◌≡◌, ℕ, ◌+◌, ◌<◌, ◌≤◌, ◌==◌, nat_le, nat_lt, subst, Bool, true, false, ◌&&◌, ◌||◌, cond, List, [], ◌∷◌, length, Option, Some, None, option_map, unwrap_or, refl, ap, sym, ◌∙◌, arith}
 use Rattle.std.specs.Prelude.{slice_get}
 use Rattle.std.proofs.lemmas.Bool.{and_parts, leb-false, le-ltb, ltb-false, ltb-true, lt-ltb}
 use Rattle.std.proofs.lemmas.Option.{slice_get_within}
@@ -20,8 +20,9 @@ use Rattle.exec_journal.specs.Legal.{after}
 use Rattle.exec_journal.specs.Settled.{ready}
 use Rattle.exec_journal.specs.declared.reply.Reply.TheVariants as reply
 use Rattle.exec_journal.specs.Facts.{SameActions}
-use Rattle.exec_journal.specs.Lawful.{Counts, Ends, Ticked, Waits}
+use Rattle.exec_journal.specs.Lawful.{Counts, Ends, Lawful, Ticked, Waits}
 use Rattle.exec_journal.proofs.Quiet.{ready_same}
+use Rattle.journal_laws.proofs.Firm.{ready_stays}
 use Rattle.worker_pool.proofs.Words.{quiet_actions}
 use Rattle.exec_journal.proofs.Ruled.{by_bool}
 use Rattle.ready_order.specs.declared.ActionState.{ActionState}
@@ -30,15 +31,16 @@ use Rattle.ready_order.specs.Stands as queues
 use Rattle.ready_order.proofs.Queued.{ready_is}
 use Rattle.core_state.specs.declared.state.State.{State}
 use Rattle.core_laws.specs.Stands.{Stands}
-use Rattle.delay_rules.specs.Delayed.{is_tick, tick_after, ticks_since}
+use Rattle.placed_rules.specs.Due.{is_tick, tick_after, ticks_since}
 use Rattle.local_delay.specs.Choices.{last_of}
 use Rattle.local_delay.specs.Counts.{Facts, IsCounted, IsMarked, capped, count_at, is_action, is_marked, more}
 use Rattle.local_delay.specs.Stands.{IsHeld, StandsFor}
 use Rattle.local_delay.specs.Told.{reached}
 
--- one more, up to n
-more_is : (n t : ℕ) (made : Bool) → more made n (capped n t) ≡ capped n (cond made (t + 1) t)
-more_is n t made =
+-- one more where they are made, up to n
+if_made : (n t : ℕ) (made : Bool) → cond (nat_lt (capped n t) n && made) (capped n t + 1) (capped n t)
+    ≡ capped n (cond made (t + 1) t)
+if_made n t made =
     by_bool (nat_lt t n) (λ b. nat_lt t n ≡ b → cond (nat_lt (cond b t n) n && made)
     (cond b t n + 1) (cond b t n) ≡ capped n (cond made (t + 1) t))
     (λ yes e. low (ltb-true t n yes) made)
@@ -62,6 +64,39 @@ more_is n t made =
         past : (made : Bool) → nat_lt (cond made (t + 1) t) n ≡ false
         past true = le-ltb (t + 1) n (omega (arith, ge))
         past false = le-ltb t n ge
+
+-- what was counted before, is made
+known_is : (n t : ℕ) (made : Bool) → (0 < t → made ≡ true)
+    → (nat_lt 0 (capped n t) || made) ≡ made
+known_is n t made counted =
+    by_bool (nat_lt 0 (capped n t)) (λ b. nat_lt 0 (capped n t) ≡ b → (b || made) ≡ made)
+    (λ yes _. let low = ltb-true 0 (capped n t) yes in let most = capped_most n t in
+    sym (counted (omega (arith, low, most))))
+    (λ _ _. refl) refl
+  where
+    capped_most : (n t : ℕ) → capped n t ≤ t
+    capped_most n t = by_bool (nat_lt t n) (λ b. nat_lt t n ≡ b → cond b t n ≤ t)
+        (λ _ _. omega arith) (λ no _. ltb-false t n no) refl
+
+-- one more, up to n
+more_is : (n t : ℕ) (made : Bool) → (0 < t → made ≡ true)
+    → more made n (capped n t) ≡ capped n (cond made (t + 1) t)
+more_is n t made counted =
+    ap (λ b. cond (nat_lt (capped n t) n && b) (capped n t + 1) (capped n t))
+    (known_is n t made counted) ∙ if_made n t made
+
+-- where a Tick was counted, the action's inputs are made
+since_ready : (p : Plan) (j : List Entry) (y : PlanAction) → Lawful p j → 0 < ticks_since p j y
+    → ready p j y ≡ true
+unfolding ticks_since
+since_ready p [] y lawful some = absurd (omega (arith, some))
+since_ready p (e ∷ j) y lawful some =
+    by_bool (is_tick e.call && ready p j y)
+    (λ b. (is_tick e.call && ready p j y) ≡ b
+    → 0 < length (and_more (cond b (Some e.lane) None) (each (tick_after p y) j))
+    → ready p (e ∷ j) y ≡ true)
+    (λ yes _ _. ready_stays p e j y lawful (and_parts (is_tick e.call) _ yes).1)
+    (λ _ _ before. ready_stays p e j y lawful (since_ready p j y lawful.0 before)) refl some
 
 -- the branch's latest attempt, after an entry
 attempt_next : (e : Entry) (j : List Entry) (a : ℕ) (b : Branch)
@@ -114,7 +149,7 @@ module _ (p : Plan) (j : List Entry) (lane : ℕ) where
         is.each a ∙ ap (option_map (more (is_ready_at s.ready a) f.ticks))
         (own.each a ∙ ap (option_map (λ z. capped n (ticks_since p j z))) at)
         ∙ (λ i. Some (more (made_is a y at i) (own.ticks i) (capped n (ticks_since p j y))))
-        ∙ ap Some (more_is n (ticks_since p j y) (ready p j y) ∙ ap (capped n) (sym (since_is y)))
+        ∙ ap Some (more_is n (ticks_since p j y) (ready p j y) (since_ready p j y st.lawful.0) ∙ ap (capped n) (sym (since_is y)))
 
     begins_none : (y : Reply) → Ticked p j y → begun_in y ≡ None
     begins_none y Counts = refl

@@ -14,8 +14,9 @@ use Rattle.journal_laws.proofs.rows.Opened.{words}
 use Rattle.ready_order.specs.Queue.{new_states, with_taken}
 use Rattle.retry_rules.specs.Counts.{new_facts}
 use Rattle.core_state.specs.declared.state.State.{State}
-use Rattle.delay_rules.specs.Bounds.{is_noted_tick}
-use Rattle.delay_rules.specs.Delayed.{delayed_discipline, delayed_earliest, is_dual, ticks_since}
+use Rattle.placed_rules.specs.Bounds.{is_noted_tick}
+use Rattle.placed_rules.specs.Placed.{delayed_discipline}
+use Rattle.placed_rules.specs.Due.{delayed_earliest, is_dual, ticks_since}
 use Rattle.local_delay.specs.Choices.{first_in, first_mark, last_of, some_waits}
 use Rattle.local_delay.specs.Counts.{Facts, capped, more}
 
@@ -106,7 +107,7 @@ module _ (s : State) where
 counts_one : more true 2 1 ≡ 2
 counts_one = refl
 
-counts_none : more false 2 1 ≡ 1
+counts_none : more false 2 0 ≡ 0
 counts_none = refl
 
 counts_no_more : more true 2 2 ≡ 2

@@ -21,7 +21,7 @@ use Rattle.core_state.specs.declared.choice.Choice.TheVariants as choice
 use Rattle.core_state.specs.declared.state.State.{State}
 use Rattle.core_state.specs.Choices.{is_over}
 use Rattle.earliest_first.specs.Choices.{choice_on, next_of}
-use Rattle.delay_rules.specs.Delayed.{is_dual}
+use Rattle.placed_rules.specs.Due.{is_dual}
 use Rattle.spawn_core.specs.Policies.{ReadsEach}
 use Rattle.local_delay.specs.Counts.{Facts, count_at, is_marked}
 

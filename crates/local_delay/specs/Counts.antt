@@ -1,5 +1,5 @@
 -- What the policy keeps, and what a Tick makes of it.
-use Rattle.std.specs.Prelude.{◌≡◌, ℕ, ◌+◌, ◌<◌, ◌==◌, nat_le, nat_lt, Bool, false, ◌&&◌, Option, Some, None, option_map, unwrap_or, if◌then◌else◌, List, length, slice_get, slice_index}
+use Rattle.std.specs.Prelude.{◌≡◌, ℕ, ◌+◌, ◌<◌, ◌==◌, nat_le, nat_lt, Bool, false, ◌&&◌, ◌||◌, Option, Some, None, option_map, unwrap_or, if◌then◌else◌, List, length, slice_get, slice_index}
 use Rattle.ready_order.specs.declared.ActionState.{ActionState}
 use Rattle.ready_order.specs.Queue.{is_ready_at}
 
@@ -19,9 +19,9 @@ is_marked f a = slice_index f.marks a == 1
 abbrev pub capped : ℕ → ℕ → ℕ
 capped most n = if nat_lt n most then n else most
 
--- one more, where the action's inputs are made
+-- one more, where the action's inputs are made; they are where a Tick was counted before
 abbrev pub more : Bool → ℕ → ℕ → ℕ
-more made most n = if nat_lt n most && made then n + 1 else n
+more made most n = if nat_lt n most && (nat_lt 0 n || made) then n + 1 else n
 
 abbrev pub is_action : Option ℕ → ℕ → Bool
 is_action (Some a) c = a == c

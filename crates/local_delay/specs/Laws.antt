@@ -35,14 +35,14 @@ use Rattle.core_laws.proofs.Rowed.{berth_of}
 use Rattle.earliest_first.specs.Choices.{ReadsOwn, choice_for, chosen_by}
 use Rattle.earliest_first.proofs.AtBerths.{group_is, seat_fits, seat_within}
 use Rattle.earliest_first.proofs.Chosen.{choice_among}
-use Rattle.delay_rules.specs.Bounds.{DelayedKept}
-use Rattle.delay_rules.specs.Delayed as de
-use Rattle.delay_rules.specs.Delayed.{delayed_discipline}
-use Rattle.delay_rules.proofs.Bounded.{few}
-use Rattle.delay_rules.proofs.Keeping.{kept}
-use Rattle.delay_rules.proofs.Lawful.{stands_so}
-use Rattle.delay_rules.proofs.Nexts.{nexts}
-use Rattle.delay_rules.proofs.Ruling.{delayed_is_discipline}
+use Rattle.placed_rules.specs.Kept.{DelayedKept}
+use Rattle.placed_rules.specs.Due as de
+use Rattle.placed_rules.specs.Own as ow
+use Rattle.placed_rules.specs.Placed.{delayed_discipline, on_own}
+use Rattle.placed_rules.proofs.Whole.{kept}
+use Rattle.placed_rules.proofs.OwnLawful.{stands_so}
+use Rattle.placed_rules.proofs.Nexts.{nexts}
+use Rattle.placed_rules.proofs.OwnRuling.{delayed_is_discipline}
 use Rattle.spawn_core.specs.Policies.{SaysSeat, StandsBy}
 use Rattle.local_delay.specs.declared.policy.DelayedPlan.{DelayedPlan}
 use Rattle.local_delay.specs.Choices as c
@@ -54,7 +54,7 @@ use Rattle.local_delay.specs.Told.{next_is, none_goes, none_past, over_is, ticke
 pub is_own : (p : Plan) (n : ℕ) → IsDiscipline (delayed_discipline p n)
 is_own p n = delayed_is_discipline p n
 
-pub few_berths : (p : Plan) → Sound p → de.delayed_seats p ≤ 128
+pub few_berths : (p : Plan) → Sound p → ow.delayed_seats p ≤ 128
 few_berths p sound = let few = sound.seats in omega (arith, few)
 
 pub basis_is : (b : DelayedPlan) (f : Facts) (j : List Entry) → StandsFor b.plan b.ticks f j
@@ -63,7 +63,7 @@ basis_is b f j own = λ i. record { plan = b.plan; ticks = own.ticks i }
 
 pub kept_is : (p : Plan) (n : ℕ) (j : List Entry) → Sound p → LegalBy (delayed_discipline p n) j
     → DelayedKept p n j
-kept_is p n j sound legal = record { orders = kept p n j sound legal; ticks = few p n j legal }
+kept_is p n j sound legal = kept (on_own p (Some n)) j sound legal
 
 -- ---- the berth behind the plan's
 
@@ -93,8 +93,8 @@ module _ (p : Plan) (n : ℕ) (s : State) (j : List Entry) (w : ℕ)
   in_group : (l : ℕ) → last_line j w ≡ Some l → group_on p j l ≡ None → ⊥
   unfolding group_on
   in_group l here none =
-      let own = (berth_of p (de.delayed_seats p) s j w l st.tables here).owner in
-      let run = (all_of p (de.delayed_seats p) s j st.tables).more.used own.1
+      let own = (berth_of p (ow.delayed_seats p) s j w l st.tables here).owner in
+      let run = (all_of p (ow.delayed_seats p) s j st.tables).more.used own.1
       (launched_begun j l own.0 own.1 own.2) in
       let group : group_on p j l ≡ Some run.group =
       ap (option_and_then (λ x. group_for p x.1)) own.2
@@ -147,7 +147,7 @@ seat_behind p n s j w st past =
     }
 
 pub seats_are : (p : Plan) (n : ℕ) (s : State) (j : List Entry) (w : ℕ)
-    → StandsBy (delayed_discipline p n) s j → w < de.delayed_seats p
+    → StandsBy (delayed_discipline p n) s j → w < ow.delayed_seats p
     → SaysSeat (delayed_discipline p n) j w (c.seated s w)
 seats_are p n s j w st lt =
     by_bool (nat_lt w (berths p)) (λ _. SaysSeat (delayed_discipline p n) j w (c.seated s w))
@@ -169,14 +169,14 @@ module _ (p : Plan) (n : ℕ) (f : Facts) (s : State) (j : List Entry) (lane : �
   in_plan : script_of (delayed_discipline p n) j lane call.Ask ≡ true → w < berths p
       → script p j lane call.Ask ≡ true
   in_plan may lt =
-      let here = and_parts (nat_lt lane (2 * de.delayed_seats p)) _
-      (asks_on (de.is_ticker p lane) (berth_script (delayed_discipline p n) j lane call.Ask) may) in
+      let here = and_parts (nat_lt lane (2 * ow.delayed_seats p)) _
+      (asks_on (ow.is_ticker p lane) (berth_script (delayed_discipline p n) j lane call.Ask) may) in
       and_from (nat_lt lane (2 * berths p)) _ (lt-ltb lane (2 * berths p) (omega (arith, lt)))
       here.1
 
   on_plan : script_of (delayed_discipline p n) j lane call.Ask ≡ true → w < berths p
       → carried_reply s w (c.chosen f s w)
-      ≡ de.ask_delayed p n j w (group_at p w) (last_line j w)
+      ≡ ow.ask_delayed p n j w (group_at p w) (last_line j w)
   on_plan may lt =
       let y = seat_is p w lt in
       let at : seat_at s.plan w ≡ Some y.0 =
@@ -184,12 +184,12 @@ module _ (p : Plan) (n : ℕ) (f : Facts) (s : State) (j : List Entry) (lane : �
       let same : c.chosen f s w ≡ chosen_by (c.next_in f s) s w =
       ap (c.chosen_at f s w) at ∙ sym (ap (choice_for s w (c.next_in f s)) at) in
       ap (carried_reply s w) same
-      ∙ choice_among p (de.delayed_seats p) (omega arith) s j lane (de.delayed_earliest p n j)
+      ∙ choice_among p (ow.delayed_seats p) (omega arith) s j lane (de.delayed_earliest p n j)
       (c.next_in f s) st.tables (stands_so p n j st.legal).seated
-      (all_of p (de.delayed_seats p) s j st.tables).facts (in_plan may lt)
+      (all_of p (ow.delayed_seats p) s j st.tables).facts (in_plan may lt)
       (record {
         nexts = nexts p n j;
-        same = λ g. next_is p n (de.delayed_seats p) f s j st.tables own g;
+        same = λ g. next_is p n (ow.delayed_seats p) f s j st.tables own g;
       })
 
   leaves : (b : Bool) → carried_reply s w (cond b choice.Stop choice.Idle)
@@ -198,22 +198,22 @@ module _ (p : Plan) (n : ℕ) (f : Facts) (s : State) (j : List Entry) (lane : �
   leaves false = refl
 
   behind : berths p ≤ w
-      → carried_reply s w (c.chosen f s w) ≡ de.ask_idly p j (last_line j w)
+      → carried_reply s w (c.chosen f s w) ≡ ow.ask_idly p j (last_line j w)
   behind past =
       let at = ap (λ (q : Plan). seat_at q w) st.tables.plan
       ∙ seat_past p w past (seat_at p w) refl in
       let none = line_past p n s j w st past (last_line j w) refl in
       ap (λ (o : Option BerthGroup). carried_reply s w (c.chosen_at f s w o)) at
       ∙ leaves (is_over s)
-      ∙ (λ i. cond (over_is p n (de.delayed_seats p) f s j st.tables own i)
+      ∙ (λ i. cond (over_is p n (ow.delayed_seats p) f s j st.tables own i)
       (r.leave j (sym none i)) reply.Idle)
 
   pub choices_are : script_of (delayed_discipline p n) j lane call.Ask ≡ true
       → carried_reply s w (c.chosen f s w) ≡ (delayed_discipline p n).rule j lane call.Ask
   choices_are may =
       by_bool (nat_lt w (berths p)) (λ b. carried_reply s w (c.chosen f s w)
-      ≡ cond b (de.ask_delayed p n j w (group_at p w) (last_line j w))
-      (de.ask_idly p j (last_line j w)))
+      ≡ cond b (ow.ask_delayed p n j w (group_at p w) (last_line j w))
+      (ow.ask_idly p j (last_line j w)))
       (λ yes. on_plan may (ltb-true w (berths p) yes))
       (λ no. behind (ltb-false w (berths p) no))
 
@@ -223,18 +223,18 @@ pub ticks_are : (p : Plan) (n : ℕ) (f : Facts) (s : State) (j : List Entry) (l
     → StandsBy (delayed_discipline p n) s j → StandsFor p n f j
     → c.ticked f s ≡ (delayed_discipline p n).rule j lane call.Tick
 ticks_are p n f s j lane st own =
-    ticked_is p n (de.delayed_seats p) f s j st.tables own
+    ticked_is p n (ow.delayed_seats p) f s j st.tables own
 
 -- ---- what is read
 
-reads_own : (p : Plan) (s : State) (j : List Entry) (w : ℕ) → Stands p (de.delayed_seats p) s j
+reads_own : (p : Plan) (s : State) (j : List Entry) (w : ℕ) → Stands p (ow.delayed_seats p) s j
     → w < berths p → ReadsOwn s w
 reads_own p s j w st lt =
-    let all = all_of p (de.delayed_seats p) s j st in record {
-      reads = read.reads p (de.delayed_seats p) s j st all.facts w (omega (arith, lt));
+    let all = all_of p (ow.delayed_seats p) s j st in record {
+      reads = read.reads p (ow.delayed_seats p) s j st all.facts w (omega (arith, lt));
       groups = (let g : length s.plan.groups ≡ length p.groups =
           ap (λ (x : Plan). length x.groups) st.plan in let few = st.sound.groups in omega arith);
-      seats = (let there = read.seats_are p (de.delayed_seats p) s j st all.facts in
+      seats = (let there = read.seats_are p (ow.delayed_seats p) s j st all.facts in
           let same = ap berths st.plan in omega (arith, there, same));
     }
 
@@ -245,7 +245,7 @@ unmarked_waits : (p : Plan) (n : ℕ) (f : Facts) (s : State) (j : List Entry)
 unmarked_waits p n f s j st own g a workers un = by (slice_get p.actions a) refl
   where
     seats : ℕ
-    seats = de.delayed_seats p
+    seats = ow.delayed_seats p
 
     by : (o : Option PlanAction) → slice_get p.actions a ≡ o → c.branch_at f s g a ≡ None
     by None past = none_past p n seats f s j st.tables own a past g
@@ -255,7 +255,7 @@ unmarked_waits p n f s j st own g a workers un = by (slice_get p.actions a) refl
 pub reads_are : (p : Plan) (n : ℕ) (f : Facts) (s : State) (j : List Entry)
     → StandsBy (delayed_discipline p n) s j → StandsFor p n f j → ReadsDelay f s
 reads_are p n f s j st own =
-    let facts = (all_of p (de.delayed_seats p) s j st.tables).facts in
+    let facts = (all_of p (ow.delayed_seats p) s j st.tables).facts in
     let same = ap (λ (q : Plan). length q.actions) st.tables.plan in
     record {
       berths = record {
@@ -265,8 +265,8 @@ reads_are p n f s j st own =
         each = λ w lt. reads_own p s j w st.tables
             (let seats = ap berths st.tables.plan in omega (arith, seats, lt));
       };
-      states = read.states_are p (de.delayed_seats p) s j st.tables facts ∙ sym same;
-      ended = read.counts_are p (de.delayed_seats p) s j st.tables facts ∙ sym same;
+      states = read.states_are p (ow.delayed_seats p) s j st.tables facts ∙ sym same;
+      ended = read.counts_are p (ow.delayed_seats p) s j st.tables facts ∙ sym same;
       few = (let most = st.tables.sound.actions in omega arith);
       marks = own.size ∙ sym same;
       unmarked = λ g a workers un. unmarked_waits p n f s j st own g a

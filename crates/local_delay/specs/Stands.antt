@@ -5,7 +5,7 @@ use Rattle.run_plan.specs.declared.plan.Plan.{Plan}
 use Rattle.run_plan.specs.declared.plan.PlanAction.{PlanAction}
 use Rattle.exec_journal.specs.Attempts.{attempt}
 use Rattle.exec_journal.specs.Entry.{Entry}
-use Rattle.delay_rules.specs.Delayed.{ticks_since}
+use Rattle.placed_rules.specs.Due.{ticks_since}
 use Rattle.local_delay.specs.Choices.{may_wait}
 use Rattle.local_delay.specs.Counts.{Facts, capped, is_marked}
 

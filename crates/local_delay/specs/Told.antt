@@ -35,9 +35,9 @@ use Rattle.core_laws.specs.Stands.{Stands}
 use Rattle.core_laws.proofs.AllOf.{all_of}
 use Rattle.earliest_first.specs.Choices.{next_of}
 use Rattle.earliest_first.proofs.Queued.{number_next}
-use Rattle.delay_rules.specs.Delayed as de
-use Rattle.delay_rules.specs.Delayed.{ticks_since}
-use Rattle.delay_rules.proofs.Nexts.{nexts}
+use Rattle.placed_rules.specs.Due as de
+use Rattle.placed_rules.specs.Due.{ticks_since}
+use Rattle.placed_rules.proofs.Nexts.{nexts}
 use Rattle.local_delay.specs.Choices as c
 use Rattle.local_delay.specs.Counts.{Facts, capped, count_at}
 use Rattle.local_delay.specs.Stands.{IsHeld, StandsFor}

@@ -1,8 +1,9 @@
 // The policy's laws.
 ghost use Rattle.std.specs.Prelude.{◌≡◌, ◌<◌, ◌^◌, [], IfOk, Some, length, refl};
 ghost use Rattle.run_plan.specs.Sound.{Sound};
-ghost use Rattle.delay_rules.specs.Bounds.{DelayedKept};
-ghost use Rattle.delay_rules.specs.Delayed.{delayed_discipline, is_tick};
+ghost use Rattle.placed_rules.specs.Kept.{DelayedKept};
+ghost use Rattle.placed_rules.specs.Placed.{delayed_discipline};
+ghost use Rattle.placed_rules.specs.Due.{is_tick};
 ghost use Rattle.spawn_core.specs.Plans.{no_plan};
 ghost use Rattle.spawn_core.specs.Stands.{StandsIn};
 ghost use Rattle.core_tables.specs.Seats.{seat_at};

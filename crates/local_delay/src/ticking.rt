@@ -1,6 +1,7 @@
 // The reply to a Tick, its effect on the counts, and the actions that are known to wait.
 ghost use Rattle.std.specs.Prelude.{◌≡◌};
 ghost use Rattle.exec_journal.specs.Attempts.{begun_in};
+ghost use Rattle.ready_order.specs.Queue.{is_ready_at};
 ghost use Rattle.local_delay.specs.Choices.{ReadsDelay, last_of, some_waits, ticked, waits_at};
 ghost use Rattle.local_delay.specs.Counts.{IsCounted, IsMarked, more};
 
@@ -54,8 +55,7 @@ impl LocalDelay {
         ensures { IsCounted ready.now self.old self.new }
     {
         for number in 0..self.counts.len() {
-            let made = ready.is_ready(number as u32);
-            let count = more(made, self.ticks, self.counts[number]);
+            let count = more(ready, number as u32, self.ticks, self.counts[number]);
             self.counts[number] = count;
             if count >= self.ticks {
                 self.marks[number] = 1;
@@ -113,11 +113,12 @@ fn begun_in(reply: &Reply) -> Option<Attempt>
     }
 }
 
-// Returns one more than the count, up to `most`, if the inputs are made.
-fn more(made: bool, most: u32, count: u32) -> u32
-    ensures { result ≡ more made most count }
+// Returns one more than the action's count, up to `most`, if its inputs are made. If a Tick was
+// counted before, they are, so the action isn't looked up.
+fn more(ready: &Ready, action: u32, most: u32, count: u32) -> u32
+    ensures { result ≡ more (is_ready_at ready.now action) most count }
 {
-    if count < most && made {
+    if count < most && (count > 0 || ready.is_ready(action)) {
         count + 1
     } else {
         count

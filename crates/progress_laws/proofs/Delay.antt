@@ -34,9 +34,10 @@ use Rattle.core_contract.specs.News.{question}
 use Rattle.progress_laws.specs.Unwanted.{UnwantedAreAsked}
 use Rattle.progress_laws.proofs.Leaving.{EndsOrWaits, OverRests, lanes_leave, none_live, over_ends, unover, unsettled_waits}
 use Rattle.progress_laws.proofs.Unwanted.{idle_asked}
-use Rattle.delay_rules.specs.Delayed as de
-use Rattle.delay_rules.specs.Delayed.{delayed_discipline}
-use Rattle.delay_rules.proofs.Lawful as dl
+use Rattle.placed_rules.specs.Due as de
+use Rattle.placed_rules.specs.Own as ow
+use Rattle.placed_rules.specs.Placed.{delayed_discipline}
+use Rattle.placed_rules.proofs.OwnLawful as dl
 use Rattle.progress_laws.specs.Awaits.{Awaits, AwaitsEnd}
 use Rattle.progress_laws.specs.Quiet.{AllQuiet}
 use Rattle.progress_laws.specs.Rests.{AllLeft, AllRest}
@@ -78,12 +79,12 @@ within_plan p n j legal l w mine =
     seat_below 0 p.groups w has.group at
 
 -- no lane of theirs makes Ticks
-unticked : (p : Plan) (lane : ℕ) → lane < 2 * berths p → de.is_ticker p lane ≡ false
+unticked : (p : Plan) (lane : ℕ) → lane < 2 * berths p → ow.is_ticker p lane ≡ false
 unticked p lane lt =
     false_by _ (λ h. (let n = eqb-true lane (2 * berths p) h in absurd (omega (arith, lt, n))))
 
 ask_is : (p : Plan) (n : ℕ) (j : List Entry) (lane : ℕ) → lane / 2 < berths p
-    → de.delayed_rule p n j lane call.Ask ≡ de.ask_delayed p n j (lane / 2) (group_at p (lane / 2))
+    → ow.delayed_rule p n j lane call.Ask ≡ ow.ask_delayed p n j (lane / 2) (group_at p (lane / 2))
     (last_line j (lane / 2))
 ask_is p n j lane lt = rw (lt-ltb (lane / 2) (berths p) lt) refl
 
@@ -187,8 +188,8 @@ module _ (p : Plan) (n : ℕ) (j : List Entry) (legal : LegalBy (delayed_discipl
         (de.delayed_earliest p n j (group_at p w)) (last_line j w))
     idle w lt =
         let low : 2 * w / 2 < berths p = omega (arith, lt) in
-        let told : de.ask_delayed p n j w (group_at p w) (last_line j w) ≡ reply.Idle =
-        subst (λ i. de.ask_delayed p n j i (group_at p i) (last_line j i) ≡ reply.Idle) (half w)
+        let told : ow.ask_delayed p n j w (group_at p w) (last_line j w) ≡ reply.Idle =
+        subst (λ i. ow.ask_delayed p n j i (group_at p i) (last_line j i) ≡ reply.Idle) (half w)
         (sym (ask_is p n j (2 * w) low) ∙ (asks_idly (delayed_discipline p n) j
         (berths p) berths_rest w lt).1) in
         idle_asks p j w (kind_of p w) (group_at p w) (last_line j w)
@@ -264,8 +265,8 @@ never_stuck p n j sound seated legal unhalted rests =
 
 -- neither the lanes of the plan's berths nor the two of the berth behind them are told Idle
 tells_more : (p : Plan) (n : ℕ) (j : List Entry) → r.is_over p j ≡ true → (lane : ℕ)
-    → de.delayed_rule p n j lane (question (de.is_ticker p) lane) ≡ reply.Idle → ⊥
-tells_more p n j over lane h = by (de.is_ticker p lane) (lane % 2 == 0) h
+    → ow.delayed_rule p n j lane (question (ow.is_ticker p) lane) ≡ reply.Idle → ⊥
+tells_more p n j over lane h = by (ow.is_ticker p lane) (lane % 2 == 0) h
   where
     none : r.is_over p j ≡ false → ⊥
     none on = clash (r.is_over p j) over on
@@ -280,8 +281,8 @@ tells_more p n j over lane h = by (de.is_ticker p lane) (lane % 2 == 0) h
     idly true m k = leave_never j (last_line j (lane / 2)) k
     idly false m k = cc
 
-    asks : (b : Bool) → cond b (de.ask_delayed p n j (lane / 2) (group_at p (lane / 2))
-        (last_line j (lane / 2))) (de.ask_idly p j (last_line j (lane / 2))) ≡ reply.Idle → ⊥
+    asks : (b : Bool) → cond b (ow.ask_delayed p n j (lane / 2) (group_at p (lane / 2))
+        (last_line j (lane / 2))) (ow.ask_idly p j (last_line j (lane / 2))) ≡ reply.Idle → ⊥
     asks true k =
         let g = group_at p (lane / 2) in
         let last = last_line j (lane / 2) in
@@ -289,7 +290,7 @@ tells_more p n j over lane h = by (de.is_ticker p lane) (lane % 2 == 0) h
         (r.launches_of p j (lane / 2) g (de.delayed_earliest p n j g) last) k)
     asks false k = idly (r.is_over p j) over k
 
-    by : (tick proxy : Bool) → de.delayed_rule p n j lane
+    by : (tick proxy : Bool) → ow.delayed_rule p n j lane
         (cond tick call.Tick (cond proxy call.Ask call.Take)) ≡ reply.Idle → ⊥
     by true proxy k = ticks (r.is_over p j) (de.some_waits p n j 0 p.actions) over k
     by false true k = asks (nat_lt (lane / 2) (berths p)) k

@@ -27,12 +27,12 @@ use Rattle.exec_journal.specs.declared.reply.Why.TheVariants as why
 use Rattle.exec_journal.proofs.Ruled.{not_true}
 use Rattle.journal_laws.proofs.Lanes as la
 use Rattle.journal_laws.proofs.Given as gi
-use Rattle.shared_rules.specs.declared.pools.SharedPlan.{SharedPlan}
-use Rattle.shared_rules.specs.declared.pools.SharedPool.{SharedPool}
-use Rattle.shared_rules.specs.Pools.{pool_of, seats, same_pool, has_group}
-use Rattle.shared_rules.specs.Needs as ne
-use Rattle.shared_rules.specs.Shared as sh
-use Rattle.shared_rules.specs.Shared.{shared_discipline, shared_rule, kind_here, group_here, pool_orders, evicts, shared_launches}
+use Rattle.placed_rules.specs.declared.pools.SharedPlan.{SharedPlan}
+use Rattle.placed_rules.specs.declared.pools.SharedPool.{SharedPool}
+use Rattle.placed_rules.specs.Pools.{pool_of, seats, same_pool, has_group}
+use Rattle.placed_rules.specs.Needs as ne
+use Rattle.placed_rules.specs.Shared as sh
+use Rattle.placed_rules.specs.Shared.{shared_rule, kind_here, group_here, pool_orders, evicts, shared_launches}
 use Rattle.progress_laws.proofs.Berths.{live_unkilled}
 use Rattle.progress_laws.proofs.Numbers.{IsGreatest, greatest}
 use Rattle.progress_laws.proofs.Pools.{any_member, in_filter, none_kept, line_own, pool_same}
@@ -54,7 +54,7 @@ ordered_up p (e ∷ j) l legal h =
 
 -- a live line with nothing pending may go, and nothing is next in its group
 pub record MayGo (s : SharedPlan) (j : List Entry) (l : ℕ) : Type 0 where
-  pub idle : ne.may_go s j l ≡ true
+  pub idle : ne.may_go s None j l ≡ true
   pub none_next : earliest s.plan j (line_group s.plan j l) ≡ None
 
 pub record PoolsIdle (s : SharedPlan) (j : List Entry) : Type 0 where
@@ -64,7 +64,7 @@ pub record PoolsIdle (s : SharedPlan) (j : List Entry) : Type 0 where
   pub lines : (w : ℕ) → w < seats s → (l : ℕ) → last_line j w ≡ Some l → live j l ≡ true
       → pending j l ≡ [] → MayGo s j l
   pub unordered : (w : ℕ) → w < seats s → (last : Option ℕ) → last_line j w ≡ last
-      → pool_orders s j w last (pool_of s w) ≡ None
+      → pool_orders s None j w last (pool_of s w) ≡ None
 
 module _ (s : SharedPlan) (j : List Entry) (all : PoolsIdle s j) where
   lawful : Lawful s.plan j
@@ -96,7 +96,7 @@ module _ (s : SharedPlan) (j : List Entry) (all : PoolsIdle s j) where
         group_is (Some k) h = eqb-true k g h
         group_is None h = absurd (cc)
 
-    pub starved : ne.is_starved s j pool g ≡ true
+    pub starved : ne.is_starved s None j pool g ≡ true
     unfolding ne.is_starved
     starved =
         and_from (is_some (earliest s.plan j g)) _ next
@@ -131,7 +131,7 @@ module _ (s : SharedPlan) (j : List Entry) (all : PoolsIdle s j) where
         few = ap (λ n. nat_lt n (ne.most_lines s pool g)) held ∙ room
 
     module _ (member : has_group pool g ≡ true) (waiting : is_some
-        (sh.next_starved s j pool) ≡ true) where
+        (sh.next_starved s None j pool) ≡ true) where
       -- each of its berths has a live line with nothing pending
       pooled : (w : ℕ) → w < seats s → pool_of s w ≡ Some pool → (l : ℕ)
           × (last_line j w ≡ Some l) × (live j l ≡ true) × (pending j l ≡ [])
@@ -139,11 +139,11 @@ module _ (s : SharedPlan) (j : List Entry) (all : PoolsIdle s j) where
         where
           busy : (last : Option ℕ) → last_line j w ≡ last → r.is_vacant j last ≡ true → ⊥
           busy last is vacant =
-              let none : pool_orders s j w last (Some pool) ≡ None =
-              subst (λ (o : Option SharedPool). pool_orders s j w last o ≡ None) at
+              let none : pool_orders s None j w last (Some pool) ≡ None =
+              subst (λ (o : Option SharedPool). pool_orders s None j w last o ≡ None) at
               (all.unordered w lt (last) is) in
-              let launch = second (evicts s j w pool last) (shared_launches s j pool last) none in
-              unlaunched (r.is_vacant j last) (sh.next_starved s j pool) vacant launch waiting
+              let launch = second (evicts s None j w pool last) (shared_launches s None j pool last) none in
+              unlaunched (r.is_vacant j last) (sh.next_starved s None j pool) vacant launch waiting
             where
               second : (a b : Option Reply) → or_else a b ≡ None → b ≡ None
               second None b h = h
@@ -179,24 +179,24 @@ module _ (s : SharedPlan) (j : List Entry) (all : PoolsIdle s j) where
         where
           evict : (top : IsGreatest (λ v. same_pool s v w) silence (seats s))
               → pool_of s top.top ≡ Some pool → (l : ℕ) → last_line j top.top ≡ Some l
-              → live j l ≡ true → pending j l ≡ [] → ne.may_evict s j top.top pool l ≡ true
+              → live j l ≡ true → pending j l ≡ [] → ne.may_evict s None j top.top pool l ≡ true
           evict top here l is up none =
-              and_from _ _ (and_from (ne.may_go s j l) _ (all.lines top.top top.below l is up
+              and_from _ _ (and_from (ne.may_go s None j l) _ (all.lines top.top top.below l is up
               none).idle
               (any_starved pool.groups member))
               (and_from _ _ (ap not (false_by (ne.some_vacant s j top.top (seats s))
               (λ h. unvacant (seats s) (λ v vlt. vlt) h)))
-              (ap not (false_by (list_any (λ x. same_pool s x.0 top.top && ne.goes_before s j l
+              (ap not (false_by (list_any (λ x. same_pool s x.0 top.top && ne.goes_before s None j l
               x.1) (ne.all_lines j)) none_before)))
             where
               any_starved : (gs : List ℕ) → list_any (λ k. k == g) gs ≡ true
-                  → list_any (ne.is_starved s j pool) gs ≡ true
+                  → list_any (ne.is_starved s None j pool) gs ≡ true
               any_starved [] h = absurd (cc)
               any_starved (k ∷ ks) h = elim (or_cases (k == g) _ h) [
-                | inl same ↦ or_left (ne.is_starved s j pool k) _
-                    (subst (λ i. ne.is_starved s j pool i ≡ true)
+                | inl same ↦ or_left (ne.is_starved s None j pool k) _
+                    (subst (λ i. ne.is_starved s None j pool i ≡ true)
                     (sym (eqb-true k g same)) starved)
-                | inr more ↦ or_right (ne.is_starved s j pool k) _ (any_starved ks more)
+                | inr more ↦ or_right (ne.is_starved s None j pool k) _ (any_starved ks more)
               ]
 
               unvacant : (n : ℕ) → ((v : ℕ) → v < n → v < seats s)
@@ -235,10 +235,10 @@ module _ (s : SharedPlan) (j : List Entry) (all : PoolsIdle s j) where
                     ]
                   ]
 
-              none_before : list_any (λ x. same_pool s x.0 top.top && ne.goes_before s j l x.1)
+              none_before : list_any (λ x. same_pool s x.0 top.top && ne.goes_before s None j l x.1)
                   (ne.all_lines j) ≡ true → ⊥
               none_before h =
-                  let found = any_member (λ x. same_pool s x.0 top.top && ne.goes_before s j l
+                  let found = any_member (λ x. same_pool s x.0 top.top && ne.goes_before s None j l
                   x.1) (ne.all_lines j) h in
                   let mine = line_own s.plan j found.0 lawful found.1 in
                   let parts = and_parts (same_pool s found.0.0 top.top) _ found.2 in
@@ -248,7 +248,7 @@ module _ (s : SharedPlan) (j : List Entry) (all : PoolsIdle s j) where
                   elim (or_cases (was_killed j found.0.1 && not (has_ended j found.0.1)) _
                   parts.1) [
                     | inl dying ↦ killed_none found.0.0 found.0.1 mine line.0 line.1 line.2 dying
-                    | inr goes ↦ (let two = and_parts (ne.may_go s j found.0.1) _ goes in
+                    | inr goes ↦ (let two = and_parts (ne.may_go s None j found.0.1) _ goes in
                         let alive : live j found.0.1 ≡ true =
                         (and_parts (live j found.0.1) _ (and_parts
                         (ne.is_idle s.plan j found.0.1) _ two.0).0).0 in
@@ -268,11 +268,11 @@ module _ (s : SharedPlan) (j : List Entry) (all : PoolsIdle s j) where
           by_top top =
               let here = pool_same s top.top w pool top.below at top.passes in
               let line = pooled top.top top.below here in
-              let none : pool_orders s j top.top (Some line.0) (Some pool) ≡ None =
-              subst (λ (o : Option SharedPool). pool_orders s j top.top
+              let none : pool_orders s None j top.top (Some line.0) (Some pool) ≡ None =
+              subst (λ (o : Option SharedPool). pool_orders s None j top.top
               (Some line.0) o ≡ None) here (all.unordered top.top top.below (Some line.0) line.1) in
-              kept (ne.may_evict s j top.top pool line.0) (reply.Kill line.0 why.Evicted)
-              (shared_launches s j pool (Some line.0)) none
+              kept (ne.may_evict s None j top.top pool line.0) (reply.Kill line.0 why.Evicted)
+              (shared_launches s None j pool (Some line.0)) none
               (evict top here line.0 line.1 line.2 line.3)
             where
               kept : (b : Bool) (x : Reply) (q : Option Reply) → or_else (r.when b x) q ≡ None

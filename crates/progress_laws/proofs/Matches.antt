@@ -26,7 +26,7 @@ use Rattle.exec_journal.proofs.Histories.{AtSome}
 use Rattle.journal_laws.specs.Invariant.{claimed}
 use Rattle.call_laws.specs.Matches.{is_faulty, is_spent}
 use Rattle.call_laws.proofs.Spent as sp
-use Rattle.shared_rules.specs.Needs as ne
+use Rattle.placed_rules.specs.Needs as ne
 use Rattle.progress_laws.proofs.Closing as co
 use Rattle.progress_laws.proofs.Going.{gathered_claimed, match_waits}
 

@@ -1,5 +1,5 @@
 -- What holds of each legal journal holds at each moment of a run.
-use Rattle.std.proofs.Common.{◌≡◌, ◌⊎◌, ℕ, List, [], ◌∷◌, ◌++◌, subst}
+use Rattle.std.proofs.Common.{◌⊎◌, ℕ, List, [], ◌∷◌, ◌++◌, subst}
 use Rattle.exec_journal.specs.Entry.{Entry}
 use Rattle.core_contract.specs.Discipline.{Discipline}
 use Rattle.core_contract.specs.Disciplines.{LegalBy}

@@ -16,10 +16,10 @@ use Rattle.exec_journal.specs.Entries.{launch_in}
 use Rattle.exec_journal.specs.Facts.{reply_line, OfBerth}
 use Rattle.exec_journal.proofs.Lines.{lines_named, of_berth_more}
 use Rattle.exec_journal.proofs.Ruled.{by_bool}
-use Rattle.shared_rules.specs.declared.pools.SharedPlan.{SharedPlan}
-use Rattle.shared_rules.specs.declared.pools.SharedPool.{SharedPool}
-use Rattle.shared_rules.specs.Pools.{pool_of, pool_from, pool_at, seats, same_pool}
-use Rattle.shared_rules.specs.Needs as ne
+use Rattle.placed_rules.specs.declared.pools.SharedPlan.{SharedPlan}
+use Rattle.placed_rules.specs.declared.pools.SharedPool.{SharedPool}
+use Rattle.placed_rules.specs.Pools.{pool_of, pool_from, pool_at, seats, same_pool}
+use Rattle.placed_rules.specs.Needs as ne
 
 -- ---- lists
 

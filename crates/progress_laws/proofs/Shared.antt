@@ -23,7 +23,7 @@ use Rattle.progress_laws.proofs.Leaving.{EndsOrWaits, OverRests, lanes_leave, no
 use Rattle.progress_laws.proofs.Unwanted.{idle_asked}
 use Rattle.progress_laws.specs.Awaits.{AwaitsEnd}
 use Rattle.progress_laws.specs.Rests.{AllLeft}
-use Rattle.shared_rules.specs.Runnable.{EachHasPool}
+use Rattle.placed_rules.specs.Runnable.{EachHasPool}
 use Rattle.progress_laws.specs.Quiet.{AllQuiet}
 use Rattle.progress_laws.specs.Rests.{AllRest}
 use Rattle.progress_laws.specs.Awaits.{Awaits}
@@ -36,13 +36,14 @@ use Rattle.exec_journal.specs.declared.reply.Why.TheVariants as why
 use Rattle.exec_journal.proofs.Ruled.{by_bool}
 use Rattle.journal_laws.proofs.Requests as q
 use Rattle.journal_laws.proofs.Lanes as la
-use Rattle.shared_rules.specs.declared.pools.SharedPlan.{SharedPlan}
-use Rattle.shared_rules.specs.declared.pools.SharedPool.{SharedPool}
-use Rattle.shared_rules.specs.Pools.{pool_of, seats}
-use Rattle.shared_rules.specs.Needs as ne
-use Rattle.shared_rules.specs.Shared as sh
-use Rattle.shared_rules.specs.Shared.{shared_discipline, shared_rule, kind_here, group_here, pool_orders, evicts, shared_launches}
-use Rattle.shared_rules.proofs.Lawful as sl
+use Rattle.placed_rules.specs.declared.pools.SharedPlan.{SharedPlan}
+use Rattle.placed_rules.specs.declared.pools.SharedPool.{SharedPool}
+use Rattle.placed_rules.specs.Pools.{pool_of, seats}
+use Rattle.placed_rules.specs.Needs as ne
+use Rattle.placed_rules.specs.Shared as sh
+use Rattle.placed_rules.specs.Placed.{shared_discipline}
+use Rattle.placed_rules.specs.Shared.{shared_rule, kind_here, group_here, pool_orders, evicts, shared_launches}
+use Rattle.placed_rules.proofs.PoolLawful as sl
 use Rattle.progress_laws.proofs.Idles.{IsIdle, NeverIdle, map_never, if_never, when_never, idle_asks, live_unsent}
 use Rattle.progress_laws.proofs.Own.{next_there}
 use Rattle.progress_laws.proofs.OwnBerths.{room_there}
@@ -69,15 +70,15 @@ launched_seat z p (e ∷ j) l m t legal h =
     by (q.Before at) ih = ih at
 
 orders_never : (s : SharedPlan) (j : List Entry) (w : ℕ) (last : Option ℕ) (o : Option SharedPool)
-    → NeverIdle (pool_orders s j w last o)
+    → NeverIdle (pool_orders s None j w last o)
 orders_never s j w last None = λ y h idle. absurd (cc)
 orders_never s j w last (Some pool) =
-    either (evicts s j w pool last) (shared_launches s j pool last) (evict last)
-    (if_never _ _ (map_never (sh.next_starved s j pool) (r.launch_order j) (λ t h. cc)))
+    either (evicts s None j w pool last) (shared_launches s None j pool last) (evict last)
+    (if_never _ _ (map_never (sh.next_starved s None j pool) (r.launch_order j) (λ t h. cc)))
   where
-    evict : (last : Option ℕ) → NeverIdle (evicts s j w pool last)
+    evict : (last : Option ℕ) → NeverIdle (evicts s None j w pool last)
     evict None = λ y h idle. absurd (cc)
-    evict (Some l) = when_never (ne.may_evict s j w pool l) (reply.Kill l why.Evicted) (λ h. cc)
+    evict (Some l) = when_never (ne.may_evict s None j w pool l) (reply.Kill l why.Evicted) (λ h. cc)
 
     either : (a b : Option Reply) → NeverIdle a → NeverIdle b → NeverIdle (or_else a b)
     either (Some x) b m n = m
@@ -88,7 +89,7 @@ orders_never s j w last (Some pool) =
 module _ (s : SharedPlan) (j : List Entry) (legal : LegalBy (shared_discipline s) j)
     (on : r.is_over s.plan j ≡ false) (rests : AllRest (shared_discipline s) (2 * seats s) j) where
   lawful : Lawful s.plan j
-  lawful = sl.lawful s j legal
+  lawful = sl.lawful s None j legal
 
   pub within : (l w : ℕ) → IsOfBerth j l w → w < seats s
   within l w mine =
@@ -110,14 +111,14 @@ module _ (s : SharedPlan) (j : List Entry) (legal : LegalBy (shared_discipline s
 
   pub idle : (w : ℕ) → w < seats s → (last : Option ℕ) → last_line j w ≡ last
       → IsIdle s.plan j w (kind_here s.plan j last) (group_here s.plan j last) last
-      (earliest s.plan j (group_here s.plan j last)) (pool_orders s j w last (pool_of s w))
+      (earliest s.plan j (group_here s.plan j last)) (pool_orders s None j w last (pool_of s w))
   idle w lt last is =
-      let told : sh.ask_shared s j w (last_line j w) ≡ reply.Idle =
-      subst (λ i. sh.ask_shared s j i (last_line j i) ≡ reply.Idle) (half w) (proxy w lt).1 in
+      let told : sh.ask_shared s None j w (last_line j w) ≡ reply.Idle =
+      subst (λ i. sh.ask_shared s None j i (last_line j i) ≡ reply.Idle) (half w) (proxy w lt).1 in
       idle_asks s.plan j w (kind_here s.plan j last) (group_here s.plan j last) last
-      (earliest s.plan j (group_here s.plan j last)) (pool_orders s j w last (pool_of s w))
+      (earliest s.plan j (group_here s.plan j last)) (pool_orders s None j w last (pool_of s w))
       (orders_never s j w last (pool_of s w)) (subst
-      (λ (x : Option ℕ). sh.ask_shared s j w x ≡ reply.Idle) is told)
+      (λ (x : Option ℕ). sh.ask_shared s None j w x ≡ reply.Idle) is told)
 
   owes_or_free : ((l : ℕ) × Awaits j l) ⊎ AllFree j (seats s)
   owes_or_free =
@@ -156,7 +157,7 @@ module _ (s : SharedPlan) (j : List Entry) (legal : LegalBy (shared_discipline s
 
     -- and it may go
     may_go : (w : ℕ) → w < seats s → (l : ℕ) → last_line j w ≡ Some l → live j l ≡ true
-        → pending j l ≡ [] → ne.may_go s j l ≡ true
+        → pending j l ≡ [] → ne.may_go s None j l ≡ true
     may_go w lt l is up none =
         let u = unbound w lt l is up in
         rw (up, none, u.0, none_waits s.plan j lawful all_quiet l, live_none w lt l is up none) refl
@@ -209,7 +210,7 @@ over_rests : (s : SharedPlan) (j : List Entry) → LegalBy (shared_discipline s)
     → OverRests (shared_discipline s) j (2 * seats s)
 over_rests s j legal over rests = record {
   legal = legal;
-  lawful = sl.lawful s j legal;
+  lawful = sl.lawful s None j legal;
   rest = rests;
   tells = λ lane lt told. tells lane (lane % 2 == 0) told;
   unticked = λ lane lt odd. refl;
@@ -221,7 +222,7 @@ over_rests s j legal over rests = record {
         let last = last_line j (lane / 2) in
         clash (r.is_over s.plan j) over (idle_on s.plan j (lane / 2) (kind_here s.plan j last)
         (group_here s.plan j last) last (earliest s.plan j (group_here s.plan j last))
-        (pool_orders s j (lane / 2) last (pool_of s (lane / 2))) h)
+        (pool_orders s None j (lane / 2) last (pool_of s (lane / 2))) h)
     tells lane false h =
         clash (r.is_over s.plan j) over (take_on s.plan j (last_line j (lane / 2)) h)
 
@@ -253,11 +254,11 @@ unwanted_asked s j w l legal unhalted rests last up =
     (over_rests s j legal over rests) unhalted w l (omega (arith, below)) refl last up))
     (λ _ on. idle_asked s.plan j w (kind_here s.plan j (Some l)) (group_here s.plan j (Some l)) l
     (earliest s.plan j (group_here s.plan j (Some l)))
-    (pool_orders s j w (Some l) (pool_of s w)) (idle s j legal on rests w below (Some l) last)
+    (pool_orders s None j w (Some l) (pool_of s w)) (idle s j legal on rests w below (Some l) last)
     refl refl up) refl
   where
     launched : IsOfBerth j l w
-    launched = la.here_own s.plan j w l (sl.lawful s j legal) last
+    launched = la.here_own s.plan j w l (sl.lawful s None j legal) last
 
     below : w < seats s
     below =

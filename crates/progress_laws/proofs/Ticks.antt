@@ -22,9 +22,10 @@ use Rattle.core_contract.specs.Disciplines.{LegalBy}
 use Rattle.core_contract.specs.News.{question}
 use Rattle.exec_journal.specs.declared.call.HowEnded.TheVariants as end
 use Rattle.discipline_laws.proofs.Fitting as fi
-use Rattle.delay_rules.specs.Delayed as de
-use Rattle.delay_rules.specs.Delayed.{delayed_discipline}
-use Rattle.delay_rules.proofs.Lawful as dl
+use Rattle.placed_rules.specs.Due as de
+use Rattle.placed_rules.specs.Own as ow
+use Rattle.placed_rules.specs.Placed.{delayed_discipline}
+use Rattle.placed_rules.proofs.OwnLawful as dl
 use Rattle.progress_laws.specs.Rests.{AllRest, IsResting, Left, Hears, Idles}
 use Rattle.progress_laws.proofs.Resting.{even, hears_odd, left_over}
 
@@ -125,9 +126,9 @@ none_waits_unticked p n j a x legal unhalted rests at waiting =
         (hears_odd p j (2 * berths p) l (fi.anywhere (delayed_discipline p n) j (2 * berths p)
         (call.Ended l end.End) may)))
     quiet (Idles asks told) =
-        let ticker : de.is_ticker p (2 * berths p) ≡ true =
+        let ticker : ow.is_ticker p (2 * berths p) ≡ true =
         eq-eqb (2 * berths p) (2 * berths p) refl in
-        let tick : question (de.is_ticker p) (2 * berths p) ≡ call.Tick =
+        let tick : question (ow.is_ticker p) (2 * berths p) ≡ call.Tick =
         ap (λ b. cond b call.Tick (cond (2 * berths p % 2 == 0) call.Ask call.Take)) ticker in
         silent (r.is_over p j) (de.some_waits p n j 0 p.actions) on
-        (subst (λ (c : Call). de.delayed_rule p n j (2 * berths p) c ≡ reply.Idle) tick told)
+        (subst (λ (c : Call). ow.delayed_rule p n j (2 * berths p) c ≡ reply.Idle) tick told)

@@ -8,8 +8,8 @@ use Rattle.exec_journal.specs.declared.reply.Reply.TheVariants as reply
 use Rattle.exec_journal.specs.Entry.{Entry}
 use Rattle.exec_journal.specs.History.{AtEach}
 use Rattle.exec_journal.specs.Settled.{one_if}
-use Rattle.delay_rules.specs.Bounds.{is_noted_tick}
-use Rattle.delay_rules.specs.Delayed.{is_dual}
+use Rattle.placed_rules.specs.Bounds.{is_noted_tick}
+use Rattle.placed_rules.specs.Due.{is_dual}
 
 -- an answer to no open request, or of a line that broke before: only a process decides how many
 -- there are

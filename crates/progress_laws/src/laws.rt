@@ -19,17 +19,19 @@ ghost use Rattle.exec_journal.specs.Settled.{all_settled, queued};
 ghost use Rattle.exec_journal.specs.Words.{granted, halted, last_line, live, pending};
 ghost use Rattle.journal_laws.specs.Invariant.{IsGoing, claimed};
 ghost use Rattle.core_contract.specs.Disciplines.{LegalBy, own_discipline};
-ghost use Rattle.shared_rules.specs.declared.pools.SharedPlan.{SharedPlan};
-ghost use Rattle.shared_rules.specs.Pools.{seats};
-ghost use Rattle.shared_rules.specs.Shared.{shared_discipline};
-ghost use Rattle.delay_rules.specs.Delayed.{delayed_discipline, delayed_seats, has_waited};
+ghost use Rattle.placed_rules.specs.declared.pools.SharedPlan.{SharedPlan};
+ghost use Rattle.placed_rules.specs.Pools.{seats};
+ghost use Rattle.placed_rules.specs.Placed.{shared_discipline};
+ghost use Rattle.placed_rules.specs.Placed.{delayed_discipline};
+ghost use Rattle.placed_rules.specs.Own.{delayed_seats};
+ghost use Rattle.placed_rules.specs.Due.{has_waited};
 ghost use Rattle.progress_laws.specs.Awaits.{Awaits, AwaitsEnd, Owes};
 ghost use Rattle.progress_laws.specs.Few.{AllWithin, CallsAreFew, CallsAreFewButTicks, DelayedCallsAreFew};
 ghost use Rattle.progress_laws.specs.Moments.{NeverStuck};
 ghost use Rattle.progress_laws.specs.Quiet.{AllQuiet, IsFree, NoneOwes};
 ghost use Rattle.progress_laws.specs.Rests.{AllLeft, AllRest};
 ghost use Rattle.run_values.specs.Runnable.{EachHasBerth};
-ghost use Rattle.shared_rules.specs.Runnable.{EachHasPool};
+ghost use Rattle.placed_rules.specs.Runnable.{EachHasPool};
 ghost use Rattle.progress_laws.specs.Unwanted.{UnwantedAreAsked};
 
 /// In any lawful journal, if both lanes of a berth rest, the process of its last line owes

@@ -1,8 +1,8 @@
 -- A policy of sound pools in which nothing was called yet stands for the empty journal.
 use Rattle.std.proofs.Common.{◌≡◌, [], sym, subst}
-use Rattle.shared_rules.specs.declared.pools.SharedPlan.{SharedPlan}
-use Rattle.shared_rules.specs.Pools.{SoundPools, seats, usable}
-use Rattle.shared_rules.proofs.Usable.{usable_is}
+use Rattle.placed_rules.specs.declared.pools.SharedPlan.{SharedPlan}
+use Rattle.placed_rules.specs.Pools.{SoundPools, seats, usable}
+use Rattle.placed_rules.proofs.Usable.{usable_is}
 use Rattle.shared_laws.specs.Spoken.{IsSpoken, berths_from}
 use Rattle.shared_laws.proofs.Noted.{begins}
 use Rattle.shared_berths.specs.declared.SharedBerths.{SharedBerths}

@@ -1,15 +1,15 @@
 -- What is noted of each group is the place of its pool.
-use Rattle.std.proofs.Common.{◌≡◌, ℕ, zero, suc, ◌+◌, ◌<◌, ◌≤◌, ◌==◌, nat_lt, Bool, true, false, ◌&&◌, ◌||◌, cond, List, [], ◌∷◌, length, filter, Option, Some, None, option_map, unwrap_or, refl, ap, sym, subst, ◌∙◌, arith}
+use Rattle.std.proofs.Common.{◌≡◌, ℕ, zero, suc, ◌+◌, ◌<◌, ◌≤◌, ◌==◌, nat_lt, Bool, true, false, ◌||◌, cond, List, [], ◌∷◌, length, filter, Option, Some, None, option_map, unwrap_or, refl, ap, sym, ◌∙◌, arith}
 use Rattle.std.specs.Prelude.{slice_get, replicate}
 use Rattle.std.specs.List.{list_all, list_any}
-use Rattle.std.proofs.lemmas.Bool.{and_parts, eq-eqb, eqb-true, ltb-true, ltb-false, lt-ltb, ne_eqb}
+use Rattle.std.proofs.lemmas.Bool.{and_parts, eq-eqb, eqb-true, ltb-true, ltb-false, ne_eqb}
 use Rattle.std.proofs.lemmas.Option.{same_Some}
 use Rattle.list_lemmas.specs.Places.{update}
 use Rattle.list_lemmas.proofs.Updates.{get_update, get_replicate}
 use Rattle.exec_journal.proofs.Ruled.{by_bool}
-use Rattle.shared_rules.specs.declared.pools.SharedPool.{SharedPool}
-use Rattle.shared_rules.specs.Pools.{has_group}
-use Rattle.shared_berths.specs.Homes.{AreHomes, StandOnce, homes_from, is_home, with_homes}
+use Rattle.placed_rules.specs.declared.pools.SharedPool.{SharedPool}
+use Rattle.placed_rules.specs.Pools.{has_group}
+use Rattle.shared_berths.specs.Homes.{AreHomes, StandOnce, homes_from, with_homes}
 
 -- ---- one group's place, pool by pool
 

@@ -9,10 +9,10 @@ use Rattle.exec_journal.specs.Entries.{is_kept}
 use Rattle.exec_journal.specs.Legal.{after}
 use Rattle.exec_journal.proofs.Ruled.{by_bool}
 use Rattle.core_contract.specs.Disciplines.{LegalBy}
-use Rattle.shared_rules.specs.declared.pools.SharedPlan.{SharedPlan}
-use Rattle.shared_rules.specs.Pools.{seats, usable}
-use Rattle.shared_rules.specs.Shared.{shared_discipline}
-use Rattle.shared_rules.proofs.Usable.{usable_is}
+use Rattle.placed_rules.specs.declared.pools.SharedPlan.{SharedPlan}
+use Rattle.placed_rules.specs.Pools.{seats, usable}
+use Rattle.placed_rules.specs.Placed.{shared_discipline}
+use Rattle.placed_rules.proofs.Usable.{usable_is}
 use Rattle.shared_laws.specs.Spoken.{IsSpoken, is_word, moved, noted}
 use Rattle.shared_laws.proofs.Moved.{all_among}
 use Rattle.shared_laws.proofs.Noted.{stays}

@@ -2,8 +2,8 @@
 use Rattle.std.proofs.Common.{◌≡◌, ℕ, suc, ◌+◌, ◌-◌, nat_lt, cond, List, [], ◌∷◌, Some, ap, ◌∙◌, arith}
 use Rattle.std.specs.Prelude.{slice_get}
 use Rattle.exec_journal.proofs.Ruled.{by_bool}
-use Rattle.shared_rules.specs.declared.pools.SharedPool.{SharedPool}
-use Rattle.shared_rules.specs.Pools.{pool_at, pool_from}
+use Rattle.placed_rules.specs.declared.pools.SharedPool.{SharedPool}
+use Rattle.placed_rules.specs.Pools.{pool_at, pool_from}
 
 from_place : (xs : List SharedPool) (p w : ℕ) (pool : SharedPool) → pool_from xs w ≡ Some pool
     → (n : ℕ) × (pool_at xs p w ≡ p + n) × (slice_get xs n ≡ Some pool)

@@ -21,10 +21,11 @@ use Rattle.core_tables.specs.declared.lanes.Said.TheVariants as said
 use Rattle.core_tables.specs.declared.last.LastLine.{LastLine}
 use Rattle.core_state.specs.declared.choice.Choice.TheVariants as choice
 use Rattle.core_state.specs.declared.state.State.{State}
-use Rattle.shared_rules.specs.Needs.{all_lines, has_match_waiting, is_starved, may_evict, silent_for}
-use Rattle.shared_rules.specs.Pools.{usable}
-use Rattle.shared_rules.specs.Shared.{next_starved, shared_discipline}
-use Rattle.shared_rules.proofs.Rows.{committed_9, given_up_12, matched_6, one_pool, second}
+use Rattle.placed_rules.specs.Needs.{all_lines, has_match_waiting, is_starved, may_evict, silent_for}
+use Rattle.placed_rules.specs.Pools.{usable}
+use Rattle.placed_rules.specs.Shared.{next_starved}
+use Rattle.placed_rules.specs.Placed.{shared_discipline}
+use Rattle.placed_rules.proofs.PoolRows.{committed_9, given_up_12, matched_6, one_pool, second}
 use Rattle.shared_berths.specs.Choices.{chosen}
 
 -- ---- by the journal

@@ -12,9 +12,9 @@ use Rattle.ready_order.specs.declared.ActionState.{ActionState}
 use Rattle.ready_order.specs.declared.BranchState.{BranchState}
 use Rattle.ready_order.specs.Queue as queue
 use Rattle.core_state.specs.declared.state.State.{State}
-use Rattle.shared_rules.specs.declared.pools.SharedPlan.{SharedPlan}
-use Rattle.shared_rules.specs.declared.pools.SharedPool.{SharedPool}
-use Rattle.shared_rules.specs.Pools.{has_group}
+use Rattle.placed_rules.specs.declared.pools.SharedPlan.{SharedPlan}
+use Rattle.placed_rules.specs.declared.pools.SharedPool.{SharedPool}
+use Rattle.placed_rules.specs.Pools.{has_group}
 use Rattle.shared_laws.specs.Berths as told
 use Rattle.shared_laws.proofs.Members.{any_member, member_any}
 use Rattle.shared_berths.specs.Starved.{starved_in}

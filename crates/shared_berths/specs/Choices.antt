@@ -15,9 +15,9 @@ use Rattle.core_state.specs.declared.choice.Choice.TheVariants as choice
 use Rattle.core_state.specs.declared.state.State.{State}
 use Rattle.core_state.specs.Choices.{Reads}
 use Rattle.earliest_first.specs.Choices.{earliest_of, first_choice}
-use Rattle.shared_rules.specs.declared.pools.SharedPlan.{SharedPlan}
-use Rattle.shared_rules.specs.declared.pools.SharedPool.{SharedPool}
-use Rattle.shared_rules.specs.Pools.{berth_kind, pool_of, seats}
+use Rattle.placed_rules.specs.declared.pools.SharedPlan.{SharedPlan}
+use Rattle.placed_rules.specs.declared.pools.SharedPool.{SharedPool}
+use Rattle.placed_rules.specs.Pools.{berth_kind, pool_of, seats}
 use Rattle.shared_laws.specs.Berths.{group_at, holds, may_evict, next_starved}
 
 -- ---- what is read

@@ -28,12 +28,12 @@ use Rattle.core_laws.proofs.AllOf.{all_of}
 use Rattle.earliest_first.specs.Choices.{earliest_of, first_choice}
 use Rattle.earliest_first.proofs.First.{first_is}
 use Rattle.earliest_first.proofs.Queued.{earliest_of_is}
-use Rattle.shared_rules.specs.declared.pools.SharedPlan.{SharedPlan}
-use Rattle.shared_rules.specs.declared.pools.SharedPool.{SharedPool}
-use Rattle.shared_rules.specs.Needs as needs
-use Rattle.shared_rules.specs.Pools.{berth_kind, pool_of, seats}
-use Rattle.shared_rules.specs.Shared as rule
-use Rattle.shared_rules.specs.Shared.{shared_discipline}
+use Rattle.placed_rules.specs.declared.pools.SharedPlan.{SharedPlan}
+use Rattle.placed_rules.specs.declared.pools.SharedPool.{SharedPool}
+use Rattle.placed_rules.specs.Needs as needs
+use Rattle.placed_rules.specs.Pools.{berth_kind, pool_of, seats}
+use Rattle.placed_rules.specs.Shared as rule
+use Rattle.placed_rules.specs.Placed.{shared_discipline}
 use Rattle.shared_laws.specs.Berths as told
 use Rattle.shared_berths.specs.Choices as own
 
@@ -41,8 +41,8 @@ use Rattle.shared_berths.specs.Choices as own
 pub record AreTold (q : SharedPlan) (s : State) (j : List Entry) (spoken : List ℕ) (w : ℕ) : Type 0 where
   pub vacant : not (told.holds s w) ≡ r.is_vacant j (last_line j w)
   pub evicts : (l : ℕ) (pool : SharedPool) → last_line j w ≡ Some l
-      → told.may_evict q s spoken w pool ≡ needs.may_evict q j w pool l
-  pub next : (pool : SharedPool) → told.next_starved q s pool ≡ rule.next_starved q j pool
+      → told.may_evict q s spoken w pool ≡ needs.may_evict q None j w pool l
+  pub next : (pool : SharedPool) → told.next_starved q s pool ≡ rule.next_starved q None j pool
 
 map_else : {X Y : Type 0} (f : X → Y) (o n : Option X)
     → option_map f (or_else o n) ≡ or_else (option_map f o) (option_map f n)
@@ -95,31 +95,31 @@ module _ (q : SharedPlan) (s : State) (j : List Entry) (lane : ℕ)
   starts_if false o = refl
 
   evicts_eq : (pool : SharedPool)
-      → option_map f (own.evicts q s spoken w pool) ≡ rule.evicts q j w pool last
+      → option_map f (own.evicts q s spoken w pool) ≡ rule.evicts q None j w pool last
   evicts_eq pool =
       ap (λ o. option_map f (own.evicts_line q s spoken w pool o))
       (last_is q.plan (seats q) s.pool j st.pool w lt)
       ∙ by last refl
     where
       by : (o : Option ℕ) → last_line j w ≡ o
-          → option_map f (own.evicts_line q s spoken w pool o) ≡ rule.evicts q j w pool o
+          → option_map f (own.evicts_line q s spoken w pool o) ≡ rule.evicts q None j w pool o
       by None here = refl
       by (Some l) here =
           kills l (told.may_evict q s spoken w pool)
           ∙ ap (λ b. r.when b (reply.Kill l why.Evicted)) (so.evicts l pool here)
 
   launches_eq : (pool : SharedPool)
-      → option_map f (own.launches q s w pool) ≡ rule.shared_launches q j pool last
+      → option_map f (own.launches q s w pool) ≡ rule.shared_launches q None j pool last
   launches_eq pool =
       starts_if (not (told.holds s w)) (told.next_starved q s pool)
       ∙ (λ i. cond (so.vacant i) (option_map (r.launch_order j) (so.next pool i)) None)
 
   more_eq : option_map f (own.pool_choice q s spoken w (pool_of q w))
-      ≡ rule.pool_orders q j w last (pool_of q w)
+      ≡ rule.pool_orders q None j w last (pool_of q w)
   more_eq = by (pool_of q w)
     where
       by : (o : Option SharedPool) → option_map f (own.pool_choice q s spoken w o)
-          ≡ rule.pool_orders q j w last o
+          ≡ rule.pool_orders q None j w last o
       by None = refl
       by (Some pool) =
           map_else f (own.evicts q s spoken w pool) (own.launches q s w pool)
@@ -131,11 +131,11 @@ module _ (q : SharedPlan) (s : State) (j : List Entry) (lane : ℕ)
   more = option_map f (own.pool_choice q s spoken w (pool_of q w))
 
   abbrev ordered : Option Reply
-  ordered = rule.pool_orders q j w last (pool_of q w)
+  ordered = rule.pool_orders q None j w last (pool_of q w)
 
   -- the kind and the group of the seat are those of the line, where there is one
   asked_eq : r.ask_of q.plan j w seat.kind seat.group last (earliest q.plan j seat.group) more
-      ≡ rule.ask_shared q j w last
+      ≡ rule.ask_shared q None j w last
   asked_eq = by last refl
     where
       by : (o : Option ℕ) → last_line j w ≡ o

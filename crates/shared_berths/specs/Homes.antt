@@ -1,9 +1,9 @@
 -- Which pool each group stands in, as it is noted by the groups' numbers.
-use Rattle.std.specs.Prelude.{◌≡◌, ℕ, suc, ◌<◌, ◌==◌, nat_lt, Bool, true, false, Option, Some, unwrap_or, option_map, List, [], ◌∷◌, length, filter, slice_get}
+use Rattle.std.specs.Prelude.{◌≡◌, ℕ, suc, ◌<◌, ◌==◌, nat_lt, Bool, true, false, Some, unwrap_or, option_map, List, [], ◌∷◌, length, filter, slice_get}
 use Rattle.std.specs.List.{list_all}
 use Rattle.list_lemmas.specs.Places.{update}
-use Rattle.shared_rules.specs.declared.pools.SharedPool.{SharedPool}
-use Rattle.shared_rules.specs.Pools.{has_group}
+use Rattle.placed_rules.specs.declared.pools.SharedPool.{SharedPool}
+use Rattle.placed_rules.specs.Pools.{has_group}
 
 -- each of so many groups stands in one of the pools, and these name no other
 pub record StandOnce (groups : ℕ) (pools : List SharedPool) : Type 0 where

@@ -1,5 +1,5 @@
 -- The laws of a policy, of the one whose groups share berths.
-use Rattle.std.proofs.Common.{◌≡◌, ℕ, ◌*◌, ◌/◌, ◌<◌, ◌≤◌, ◌^◌, nat_lt, true, cond, List, [], Some, None, ap, sym, subst, ◌∙◌, arith}
+use Rattle.std.proofs.Common.{◌≡◌, ℕ, ◌*◌, ◌/◌, ◌<◌, ◌≤◌, nat_lt, true, cond, List, [], Some, None, ap, sym, subst, ◌∙◌, arith}
 use Rattle.std.proofs.lemmas.Bool.{and_parts, le-leb, lt-ltb, ltb-true}
 use Rattle.run_plan.specs.Limits.{most_berths}
 use Rattle.run_plan.specs.Sound.{Sound}
@@ -17,12 +17,12 @@ use Rattle.core_laws.proofs.Read as read
 use Rattle.spawn_core.specs.Plans.{no_plan}
 use Rattle.spawn_core.specs.Policies as policies
 use Rattle.spawn_core.specs.Policies.{SaysSeat}
-use Rattle.shared_rules.specs.declared.pools.SharedPlan.{SharedPlan}
-use Rattle.shared_rules.specs.Kept.{SharedKept}
-use Rattle.shared_rules.specs.Pools.{seats, usable}
-use Rattle.shared_rules.specs.Shared.{shared_discipline}
-use Rattle.shared_rules.proofs.Keeping.{kept}
-use Rattle.shared_rules.proofs.Usable.{few_usable, sound_fits, usable_berths, usable_is, usable_is_discipline}
+use Rattle.placed_rules.specs.declared.pools.SharedPlan.{SharedPlan}
+use Rattle.placed_rules.specs.Kept.{SharedKept}
+use Rattle.placed_rules.specs.Pools.{seats, usable}
+use Rattle.placed_rules.specs.Placed.{on_pools, shared_discipline}
+use Rattle.placed_rules.proofs.Whole.{kept}
+use Rattle.placed_rules.proofs.Usable.{few_usable, sound_fits, usable_berths, usable_is, usable_is_discipline}
 use Rattle.shared_berths.specs.declared.SharedBerths.{SharedBerths}
 use Rattle.shared_berths.specs.Choices.{ReadsShared, chosen, seat_here, seated}
 use Rattle.shared_berths.specs.Chosen.{chosen_is}
@@ -34,7 +34,7 @@ pub no_pools : SharedPlan
 no_pools = record { plan = no_plan; pools = []; instances = 0 }
 
 pub is_shared : (q : SharedPlan) → IsDiscipline (shared_discipline (usable q))
-is_shared q = usable_is_discipline q
+is_shared q = usable_is_discipline q None
 
 pub few_berths : (q : SharedPlan) → seats (usable q) ≤ 128
 few_berths q = let same = usable_berths q in let few = few_usable q.pools in omega arith
@@ -47,7 +47,7 @@ ticks_are b j lane ticks = absurd (cc)
 
 pub kept_is : (q : SharedPlan) (j : List Entry) → Sound q.plan
     → LegalBy (shared_discipline (usable q)) j → SharedKept (usable q) j
-kept_is q j sound legal = kept (usable q) j sound legal
+kept_is q j sound legal = kept (on_pools (usable q) None) j sound legal
 
 module _ (q : SharedPlan) (m : SharedBerths) (j : List Entry) (own : StandsBy q m j) where
   pub basis_is : shared_by m q.plan ≡ q

@@ -15,10 +15,10 @@ use Rattle.core_tables.specs.Last.{last_in, row_of}
 use Rattle.core_state.specs.declared.state.State.{State}
 use Rattle.core_state.specs.Choices.{attempt_at, attempt_on}
 use Rattle.core_laws.specs.Stands.{SeatFits, Stands}
-use Rattle.shared_rules.specs.declared.pools.SharedPlan.{SharedPlan}
-use Rattle.shared_rules.specs.Pools.{berth_kind, pools_fit, seats}
-use Rattle.shared_rules.specs.Shared.{shared_discipline}
-use Rattle.shared_rules.proofs.Pooled.{launched_runs}
+use Rattle.placed_rules.specs.declared.pools.SharedPlan.{SharedPlan}
+use Rattle.placed_rules.specs.Pools.{berth_kind, pools_fit, seats}
+use Rattle.placed_rules.specs.Placed.{shared_discipline}
+use Rattle.placed_rules.proofs.Pooled.{launched_runs}
 use Rattle.shared_berths.specs.Choices.{seat_here, seat_of}
 
 -- the seat fits, and is an executor's exactly where the berth is
@@ -67,7 +67,7 @@ module _ (q : SharedPlan) (s : State) (j : List Entry) (st : Stands q.plan (seat
       let at = own.owner.2 in
       let runs : RunsOn q.plan (is_remote (berth_kind q w)) own.owner.1 =
       subst (λ v. RunsOn q.plan (is_remote (berth_kind q v)) own.owner.1) own.owner.3
-      (launched_runs q j l own.owner.0 own.owner.1 fit legal at) in
+      (launched_runs q None j l own.owner.0 own.owner.1 fit legal at) in
       let group : group_on q.plan j l ≡ Some runs.group =
       ap (option_and_then (λ x. group_for q.plan x.1)) at ∙ runs.of_branch in
       let same : option_and_then (group_for q.plan) (option_map (λ x. x.1) (launch_of j l))

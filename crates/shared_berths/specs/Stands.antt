@@ -2,8 +2,8 @@
 use Rattle.std.specs.Prelude.{◌≡◌, List}
 use Rattle.run_plan.specs.declared.plan.Plan.{Plan}
 use Rattle.exec_journal.specs.Entry.{Entry}
-use Rattle.shared_rules.specs.declared.pools.SharedPlan.{SharedPlan}
-use Rattle.shared_rules.specs.Pools.{SoundPools, seats}
+use Rattle.placed_rules.specs.declared.pools.SharedPlan.{SharedPlan}
+use Rattle.placed_rules.specs.Pools.{SoundPools, seats}
 use Rattle.shared_laws.specs.Spoken.{IsSpoken}
 use Rattle.shared_berths.specs.declared.SharedBerths.{SharedBerths}
 

@@ -1,9 +1,9 @@
 -- The groups of a pool that are starved, as a set which is asked of one group at a time.
 use Rattle.std.specs.Prelude.{◌≡◌, ℕ, Bool, ◌&&◌, Some, slice_get}
 use Rattle.core_state.specs.declared.state.State.{State}
-use Rattle.shared_rules.specs.declared.pools.SharedPlan.{SharedPlan}
-use Rattle.shared_rules.specs.declared.pools.SharedPool.{SharedPool}
-use Rattle.shared_rules.specs.Pools.{has_group}
+use Rattle.placed_rules.specs.declared.pools.SharedPlan.{SharedPlan}
+use Rattle.placed_rules.specs.declared.pools.SharedPool.{SharedPool}
+use Rattle.placed_rules.specs.Pools.{has_group}
 use Rattle.shared_laws.specs.Berths.{is_starved}
 use Rattle.shared_berths.specs.declared.SharedBerths.{SharedBerths}
 use Rattle.shared_berths.specs.Choices.{ReadsShared}

@@ -3,8 +3,8 @@ use Rattle.std.proofs.Common.{ℕ, List}
 use Rattle.exec_journal.specs.Entry.{Entry}
 use Rattle.core_state.specs.declared.state.State.{State}
 use Rattle.core_laws.specs.Stands.{Stands}
-use Rattle.shared_rules.specs.declared.pools.SharedPlan.{SharedPlan}
-use Rattle.shared_rules.specs.Pools.{seats}
+use Rattle.placed_rules.specs.declared.pools.SharedPlan.{SharedPlan}
+use Rattle.placed_rules.specs.Pools.{seats}
 use Rattle.shared_laws.specs.Spoken.{IsSpoken}
 use Rattle.shared_laws.proofs.Evictions.{evicted_is_told}
 use Rattle.shared_laws.proofs.Lines.{held_at, vacant_is}

@@ -1,12 +1,12 @@
 // The pools of a plan, and the pool of each group.
 ghost use Rattle.std.specs.Prelude.{◌≡◌, IfOk, Some, slice_get};
 ghost use Rattle.list_lemmas.specs.Places.{update};
-ghost use Rattle.shared_rules.specs.Pools.{has_group, usable_seats};
+ghost use Rattle.placed_rules.specs.Pools.{has_group, usable_seats};
 ghost use Rattle.shared_berths.specs.Homes.{AreHomes, StandOnce, is_home, with_homes};
 
 use crate::pools::berths_of;
+use placed_rules::SharedPool;
 use plain_values::{Items, NoMemory};
-use shared_rules::SharedPool;
 use std::alloc::Global;
 use std::marker::Model;
 
@@ -20,7 +20,7 @@ pub struct Pools {
 
 impl Model for Pools {
     ghost use Rattle.std.specs.Prelude.{List};
-    ghost use Rattle.shared_rules.specs.declared.pools.SharedPool.{SharedPool};
+    ghost use Rattle.placed_rules.specs.declared.pools.SharedPool.{SharedPool};
     ghost use Rattle.shared_berths.specs.Homes.{AreHomes};
 
     ghost Value = { List SharedPool };

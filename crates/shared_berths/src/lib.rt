@@ -7,8 +7,8 @@
 ghost use Rattle.std.specs.Prelude.{[], IfOk};
 ghost use Rattle.run_plan.specs.Sound.{Sound};
 ghost use Rattle.spawn_core.specs.Stands.{StandsIn};
-ghost use Rattle.shared_rules.specs.Pools.{SoundPools};
-ghost use Rattle.shared_rules.specs.Shared.{shared_discipline};
+ghost use Rattle.placed_rules.specs.Pools.{SoundPools};
+ghost use Rattle.placed_rules.specs.Placed.{shared_discipline};
 ghost use Rattle.shared_berths.specs.Stands.{StandsBy};
 
 mod homes;
@@ -21,8 +21,8 @@ mod starved;
 use arrayvec::ArrayVec;
 use homes::Pools;
 use order::silent_berths;
+use placed_rules::SharedPlan;
 use plain_values::NoMemory;
-use shared_rules::SharedPlan;
 use spawn_core::Core;
 use std::alloc::Global;
 

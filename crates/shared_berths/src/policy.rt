@@ -2,13 +2,13 @@
 ghost use Rattle.std.specs.Prelude.{◌≡◌, ◌<◌, Some, refl};
 ghost use Rattle.std.specs.List.{list_any};
 ghost use Rattle.core_state.specs.Choices.{Reads};
-ghost use Rattle.shared_rules.specs.declared.pools.SharedPlan.{SharedPlan};
+ghost use Rattle.placed_rules.specs.declared.pools.SharedPlan.{SharedPlan};
 ghost use Rattle.exec_journal.specs.Seated.{kind_in};
 ghost use Rattle.exec_journal.specs.declared.reply.Reply.TheVariants as reply;
 ghost use Rattle.run_plan.specs.Groups.{has_cancellation, is_remote};
-ghost use Rattle.shared_rules.specs.Kept.{SharedKept};
-ghost use Rattle.shared_rules.specs.Pools.{berth_kind, pool_of, seats, usable};
-ghost use Rattle.shared_rules.specs.Shared.{shared_discipline};
+ghost use Rattle.placed_rules.specs.Kept.{SharedKept};
+ghost use Rattle.placed_rules.specs.Pools.{berth_kind, pool_of, seats, usable};
+ghost use Rattle.placed_rules.specs.Placed.{shared_discipline};
 ghost use Rattle.shared_berths.specs.Choices.{ReadsShared, chosen, evicts, launches, pool_choice, seat_here, seat_of, seated};
 ghost use Rattle.shared_berths.specs.Laws as laws;
 ghost use Rattle.shared_berths.specs.Stands.{StandsBy, shared_by};
@@ -21,7 +21,7 @@ use core_state::{Choice, State};
 use core_tables::BerthGroup;
 use earliest_first::{choose_first, earliest};
 use exec_journal::{Call, Kind, Plan, Reply, Why};
-use shared_rules::{SharedPlan, SharedPool};
+use placed_rules::{SharedPlan, SharedPool};
 use spawn_core::Policy;
 
 impl Policy for SharedBerths {

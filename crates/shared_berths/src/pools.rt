@@ -2,11 +2,11 @@
 ghost use Rattle.std.specs.Prelude.{◌≡◌, Some, option_copied};
 ghost use Rattle.run_plan.specs.Groups.{is_remote};
 ghost use Rattle.exec_journal.specs.Seated.{kind_in};
-ghost use Rattle.shared_rules.specs.Pools.{pool_at, pool_from, usable_seats};
+ghost use Rattle.placed_rules.specs.Pools.{pool_at, pool_from, usable_seats};
 
 use exec_journal::{Kind, Plan};
+use placed_rules::SharedPool;
 use run_plan::MOST_BERTHS;
-use shared_rules::SharedPool;
 
 /// Returns the number of berths of these pools, or 0 if a run may not have as many.
 pub fn berths_of(pools: &[SharedPool]) -> u32

@@ -3,8 +3,8 @@ ghost use Rattle.std.specs.Prelude.{◌≡◌, ◌*◌, ◌<◌, ◌==◌, ◌&&
 ghost use Rattle.std.specs.List.{list_any};
 ghost use Rattle.core_state.specs.Choices.{Reads};
 ghost use Rattle.earliest_first.specs.Choices.{next_of};
-ghost use Rattle.shared_rules.specs.Needs.{most_lines};
-ghost use Rattle.shared_rules.specs.Pools.{pool_at, pool_of, same_pool, seats};
+ghost use Rattle.placed_rules.specs.Needs.{most_lines};
+ghost use Rattle.placed_rules.specs.Pools.{pool_at, pool_of, same_pool, seats};
 ghost use Rattle.shared_berths.specs.Choices.{ReadsShared};
 ghost use Rattle.shared_berths.specs.Stands.{shared_by};
 ghost use Rattle.shared_berths.specs.Starved.{MayAsk, starved_in};
@@ -16,8 +16,8 @@ use crate::order::is_before;
 use crate::pools::{is_executor, pool_at};
 use core_state::State;
 use exec_journal::{Attempt, Branch, Plan};
+use placed_rules::SharedPool;
 use ready_order::GroupSet;
-use shared_rules::SharedPool;
 
 // The groups that are starved in the pool at this place.
 #[derive(Clone, Copy)]

@@ -14,7 +14,7 @@ use Rattle.exec_journal.specs.Words.{last_line}
 use Rattle.exec_journal.proofs.Lines.{lines_named, of_berth_more}
 use Rattle.exec_journal.proofs.Ruled.{by_bool}
 use Rattle.list_lemmas.specs.Options.{or_else}
-use Rattle.shared_rules.specs.Needs.{all_lines, line_with}
+use Rattle.placed_rules.specs.Needs.{all_lines, line_with}
 use Rattle.shared_laws.proofs.Members.{Member, more_new, more_old, one_more}
 
 launch_names : (x : Reply) (y : ℕ × Attempt) → launch_in x ≡ Some y → reply_line x ≡ Some y.0

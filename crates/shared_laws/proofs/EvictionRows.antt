@@ -15,8 +15,8 @@ use Rattle.core_tables.specs.declared.lanes.Said.TheVariants as said
 use Rattle.core_tables.specs.declared.last.LastLine.{LastLine}
 use Rattle.core_tables.specs.declared.matches.Match.{Match}
 use Rattle.core_state.specs.declared.state.State.{State}
-use Rattle.shared_rules.specs.declared.pools.SharedPlan.{SharedPlan}
-use Rattle.shared_rules.specs.declared.pools.SharedPool.{SharedPool}
+use Rattle.placed_rules.specs.declared.pools.SharedPlan.{SharedPlan}
+use Rattle.placed_rules.specs.declared.pools.SharedPool.{SharedPool}
 use Rattle.shared_laws.specs.Berths.{may_evict, rests}
 
 -- an action of a worker key

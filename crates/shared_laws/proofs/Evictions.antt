@@ -14,11 +14,11 @@ use Rattle.ready_order.specs.Queue.{earliest_in}
 use Rattle.core_state.specs.declared.state.State.{State}
 use Rattle.core_laws.specs.Stands.{Stands}
 use Rattle.earliest_first.proofs.Queued.{earliest_of_is}
-use Rattle.shared_rules.specs.declared.pools.SharedPlan.{SharedPlan}
-use Rattle.shared_rules.specs.declared.pools.SharedPool.{SharedPool}
-use Rattle.shared_rules.specs.Needs as needs
-use Rattle.shared_rules.specs.Needs.{all_lines, silent_for}
-use Rattle.shared_rules.specs.Pools.{same_pool, seats}
+use Rattle.placed_rules.specs.declared.pools.SharedPlan.{SharedPlan}
+use Rattle.placed_rules.specs.declared.pools.SharedPool.{SharedPool}
+use Rattle.placed_rules.specs.Needs as needs
+use Rattle.placed_rules.specs.Needs.{all_lines, silent_for}
+use Rattle.placed_rules.specs.Pools.{same_pool, seats}
 use Rattle.shared_laws.specs.Berths.{goes_before, group_at, is_starved, line_is_killed, may_evict, may_go, some_before, some_vacant}
 use Rattle.shared_laws.specs.Spoken.{IsSpoken, is_before}
 use Rattle.shared_laws.proofs.AllLines.{last_among, line_own}
@@ -73,25 +73,25 @@ module _ (q : SharedPlan) (s : State) (j : List Entry) (st : Stands q.plan (seat
   none_queued g = sym (none_mapped _ (earliest_in s.ready g))
       ∙ ap is_none (earliest_of_is q.plan j s.ready s.attempts g st.ready st.attempts)
 
-  pub may_go_is : (w l : ℕ) → last_line j w ≡ Some l → may_go s w ≡ needs.may_go q j l
+  pub may_go_is : (w l : ℕ) → last_line j w ≡ Some l → may_go s w ≡ needs.may_go q None j l
   may_go_is w l here =
       (λ i. li.rests_is q s j w l st here i && none_queued (unwrap_or (group_at s w) 0) i)
       ∙ ap (λ (o : Option ℕ). needs.is_idle q.plan j l
       && is_none (earliest q.plan j (unwrap_or o 0))) (li.group_is q s j w l st here)
 
   -- a line that may go is live
-  goes_live : (l : ℕ) → needs.may_go q j l ≡ true → live j l ≡ true
+  goes_live : (l : ℕ) → needs.may_go q None j l ≡ true → live j l ≡ true
   goes_live l h = (and_parts (live j l) _ (and_parts (needs.is_idle q.plan j l) _ h).0).0
 
-  goes_started : (l : ℕ) → needs.may_go q j l ≡ true → started j l ≡ true
+  goes_started : (l : ℕ) → needs.may_go q None j l ≡ true → started j l ≡ true
   goes_started l h = c.live_started j l (goes_live l h)
 
   -- ---- a line goes before another
 
   module _ (ws : List ℕ) (known : IsSpoken (seats q) j ws) (w l : ℕ)
-      (here : last_line j w ≡ Some l) (goes_too : needs.may_go q j l ≡ true) where
+      (here : last_line j w ≡ Some l) (goes_too : needs.may_go q None j l ≡ true) where
     -- of two that may go the one that was silent for longer
-    longer : (v k : ℕ) → last_line j v ≡ Some k → needs.may_go q j k ≡ true
+    longer : (v k : ℕ) → last_line j v ≡ Some k → needs.may_go q None j k ≡ true
         → (not (v == w) && is_before v w ws) ≡ nat_lt (silent_for j l) (silent_for j k)
     longer v k there may =
         by_bool (v == w) (λ b. (v == w) ≡ b
@@ -119,18 +119,18 @@ module _ (q : SharedPlan) (s : State) (j : List Entry) (st : Stands q.plan (seat
             ∙ ap not last
 
     goes_is : (v k : ℕ) → last_line j v ≡ Some k
-        → goes_before s ws w v ≡ needs.goes_before q j l k
+        → goes_before s ws w v ≡ needs.goes_before q None j l k
     goes_is v k there =
         (λ i. line_is_killed (li.line_eq q s j v k st there i)
         || (may_go_is v k there i && (not (v == w) && is_before v w ws)))
         ∙ ap (λ b. (was_killed j k && not (has_ended j k)) || b)
-        (by_bool (needs.may_go q j k) (λ b. needs.may_go q j k ≡ b
+        (by_bool (needs.may_go q None j k) (λ b. needs.may_go q None j k ≡ b
         → (b && (not (v == w) && is_before v w ws))
         ≡ (b && nat_lt (silent_for j l) (silent_for j k)))
         (λ _ may. longer v k there may) (λ _ _. refl) refl)
 
     -- a line that goes before is its berth's last
-    goes_last : (v k : ℕ) → IsOfBerth j k v → needs.goes_before q j l k ≡ true
+    goes_last : (v k : ℕ) → IsOfBerth j k v → needs.goes_before q None j l k ≡ true
         → last_line j v ≡ Some k
     goes_last v k own h =
         elim (va.last_or_done q.plan j k own.owner.0 own.owner.1 st.lawful own.owner.2) [
@@ -138,7 +138,7 @@ module _ (q : SharedPlan) (s : State) (j : List Entry) (st : Stands q.plan (seat
           | inr done ↦ absurd (elim (or_cases (was_killed j k && not (has_ended j k)) _ h) [
             | inl killed ↦ stays (and_parts (was_killed j k) _ killed)
                 (or_cases (failed j k) _ done)
-            | inr may ↦ clash (live j k) (goes_live k (and_parts (needs.may_go q j k) _ may).0)
+            | inr may ↦ clash (live j k) (goes_live k (and_parts (needs.may_go q None j k) _ may).0)
                 (va.done_not_live q.plan j k st.lawful done)
           ])
         ]
@@ -159,7 +159,7 @@ module _ (q : SharedPlan) (s : State) (j : List Entry) (st : Stands q.plan (seat
         by None is = absurd (clash (goes_before s ws w v) h (rw (li.no_line q s j v st is) refl))
 
     abbrev goes_of : ℕ × ℕ → Bool
-    goes_of x = same_pool q x.0 w && needs.goes_before q j l x.1
+    goes_of x = same_pool q x.0 w && needs.goes_before q None j l x.1
 
     pub some_goes : some_before q s ws w (seats q) ≡ list_any goes_of (all_lines j)
     some_goes = by_bool (list_any goes_of (all_lines j)) (λ b. list_any goes_of (all_lines j) ≡ b
@@ -187,23 +187,23 @@ module _ (q : SharedPlan) (s : State) (j : List Entry) (st : Stands q.plan (seat
 
   module _ (w l : ℕ) (pool : SharedPool) where
     abbrev starves : Bool
-    starves = list_any (needs.is_starved q j pool) pool.groups
+    starves = list_any (needs.is_starved q None j pool) pool.groups
 
     abbrev vacant : Bool
     vacant = needs.some_vacant q j w (seats q)
 
     abbrev goes_first : Bool
-    goes_first = list_any (λ x. same_pool q x.0 w && needs.goes_before q j l x.1) (all_lines j)
+    goes_first = list_any (λ x. same_pool q x.0 w && needs.goes_before q None j l x.1) (all_lines j)
 
     pub evicts_is : (ws : List ℕ) → IsSpoken (seats q) j ws → last_line j w ≡ Some l
-        → ((g : ℕ) → is_starved q s pool g ≡ needs.is_starved q j pool g)
-        → may_evict q s ws w pool ≡ needs.may_evict q j w pool l
+        → ((g : ℕ) → is_starved q s pool g ≡ needs.is_starved q None j pool g)
+        → may_evict q s ws w pool ≡ needs.may_evict q None j w pool l
     unfolding needs.may_evict
     evicts_is ws known here starved =
         (λ i. (may_go_is w l here i
-        && any_same (is_starved q s pool) (needs.is_starved q j pool) pool.groups starved i)
+        && any_same (is_starved q s pool) (needs.is_starved q None j pool) pool.groups starved i)
         && (not (vacant_some q s j w (seats q) st i) && not (some_before q s ws w (seats q))))
-        ∙ by_bool (needs.may_go q j l) (λ b. needs.may_go q j l ≡ b
+        ∙ by_bool (needs.may_go q None j l) (λ b. needs.may_go q None j l ≡ b
         → ((b && starves) && (not vacant && not (some_before q s ws w (seats q))))
         ≡ ((b && starves) && (not vacant && not goes_first)))
         (λ _ may. ap (λ b. starves && (not vacant && not b)) (some_goes ws known w l here may))
@@ -212,7 +212,7 @@ module _ (q : SharedPlan) (s : State) (j : List Entry) (st : Stands q.plan (seat
 -- so the line that is given up is the journal's
 pub evicted_is_told : (q : SharedPlan) (s : State) (j : List Entry) (ws : List ℕ) (w l : ℕ)
     (pool : SharedPool) → Stands q.plan (seats q) s j → IsSpoken (seats q) j ws
-    → last_line j w ≡ Some l → may_evict q s ws w pool ≡ needs.may_evict q j w pool l
+    → last_line j w ≡ Some l → may_evict q s ws w pool ≡ needs.may_evict q None j w pool l
 evicted_is_told q s j ws w l pool st known here =
     evicts_is q s j st w l pool ws known here
     (λ g. starved_is_told q s j st (li.held_at q s j st) pool g)

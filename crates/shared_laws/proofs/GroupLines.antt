@@ -17,7 +17,7 @@ use Rattle.core_state.specs.Choices.{attempt_at, attempt_on}
 use Rattle.core_laws.specs.Stands.{Stands}
 use Rattle.earliest_first.specs.Choices as choices
 use Rattle.shared_laws.specs.Berths.{group_at, holds, is_of_group}
-use Rattle.shared_rules.specs.Needs.{is_held}
+use Rattle.placed_rules.specs.Needs.{is_held}
 use Rattle.shared_laws.proofs.LastLines.{passes}
 
 -- which last lines may still have a process is as the journal says

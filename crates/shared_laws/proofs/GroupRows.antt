@@ -12,8 +12,8 @@ use Rattle.core_tables.specs.declared.lanes.Owed.{Owed}
 use Rattle.core_tables.specs.declared.lanes.Owed.TheVariants as order
 use Rattle.core_tables.specs.declared.lanes.Said.TheVariants as said
 use Rattle.core_state.specs.declared.state.State.{State}
-use Rattle.shared_rules.specs.declared.pools.SharedPlan.{SharedPlan}
-use Rattle.shared_rules.specs.declared.pools.SharedPool.{SharedPool}
+use Rattle.placed_rules.specs.declared.pools.SharedPlan.{SharedPlan}
+use Rattle.placed_rules.specs.declared.pools.SharedPool.{SharedPool}
 use Rattle.shared_laws.specs.Berths.{holds, is_starved, lines_held, next_starved, some_free}
 
 unfoldable second : PlanAction

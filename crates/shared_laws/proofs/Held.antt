@@ -23,7 +23,7 @@ use Rattle.journal_laws.proofs.Lanes as la
 use Rattle.journal_laws.proofs.Vacant as va
 use Rattle.call_laws.proofs.LastLines as ll
 use Rattle.call_laws.proofs.Owing as ow
-use Rattle.shared_rules.specs.Needs as needs
+use Rattle.placed_rules.specs.Needs as needs
 use Rattle.shared_laws.specs.Berths.{is_launching}
 
 -- ---- the proxy lane of a berth

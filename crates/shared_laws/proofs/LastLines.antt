@@ -9,7 +9,7 @@ use Rattle.exec_journal.specs.Lawful.{Lawful}
 use Rattle.exec_journal.specs.Rules.{head}
 use Rattle.exec_journal.specs.Words.{last_line, line_at, lines_of, failed, has_ended, was_killed}
 use Rattle.journal_laws.proofs.Vacant.{is_done_line, EachDone, rest, older_done}
-use Rattle.shared_rules.specs.Needs.{is_held}
+use Rattle.placed_rules.specs.Needs.{is_held}
 use Rattle.shared_laws.proofs.LineCounts.{count_more}
 
 head_at : (o q : Option ℕ) (ls : List ℕ) → head ls ≡ q → head (and_more o ls) ≡ or_else o q

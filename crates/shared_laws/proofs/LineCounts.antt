@@ -9,7 +9,7 @@ use Rattle.exec_journal.specs.Entries.{launch_in}
 use Rattle.exec_journal.specs.Words.{lines_of}
 use Rattle.exec_journal.proofs.Ruled.{by_bool}
 use Rattle.core_laws.specs.Stands.{AreSeated}
-use Rattle.shared_rules.specs.Needs.{all_lines}
+use Rattle.placed_rules.specs.Needs.{all_lines}
 
 -- ---- sums
 

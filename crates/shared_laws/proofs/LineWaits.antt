@@ -28,7 +28,7 @@ use Rattle.call_laws.specs.Matches.{Matched, is_spent, matched_at, recent, waits
 use Rattle.call_laws.proofs.Gathers.{all_matches}
 use Rattle.call_laws.proofs.Owing as ow
 use Rattle.core_tables.specs.Lanes.{order_after, order_of_work}
-use Rattle.shared_rules.specs.Needs.{has_match_waiting, matches_line, waits_for_claim}
+use Rattle.placed_rules.specs.Needs.{has_match_waiting, matches_line, waits_for_claim}
 use Rattle.shared_laws.specs.Berths.{is_gathering}
 use Rattle.shared_laws.proofs.Held.{proxy_is, proxy_of}
 use Rattle.shared_laws.proofs.Matched as ma

@@ -28,9 +28,9 @@ use Rattle.core_state.specs.declared.state.State.{State}
 use Rattle.core_state.specs.Machine.{order_at, order_on}
 use Rattle.core_laws.specs.Stands.{Stands}
 use Rattle.core_laws.proofs.Rowed.{berth_below}
-use Rattle.shared_rules.specs.declared.pools.SharedPlan.{SharedPlan}
-use Rattle.shared_rules.specs.Needs as needs
-use Rattle.shared_rules.specs.Pools.{seats}
+use Rattle.placed_rules.specs.declared.pools.SharedPlan.{SharedPlan}
+use Rattle.placed_rules.specs.Needs as needs
+use Rattle.placed_rules.specs.Pools.{seats}
 use Rattle.shared_laws.specs.Berths.{group_at, holds, is_gathering, line_at, line_holds, line_rests, rests}
 use Rattle.shared_laws.proofs.GroupLines as groups
 use Rattle.shared_laws.proofs.GroupLines.{HeldAt}

@@ -22,10 +22,10 @@ use Rattle.core_state.specs.declared.state.State.{State}
 use Rattle.core_laws.specs.Stands.{Stands}
 use Rattle.earliest_first.specs.Choices.{next_of}
 use Rattle.earliest_first.proofs.Queued.{number_next}
-use Rattle.shared_rules.specs.declared.pools.SharedPlan.{SharedPlan}
-use Rattle.shared_rules.specs.declared.pools.SharedPool.{SharedPool}
-use Rattle.shared_rules.specs.Pools.{has_group, seats}
-use Rattle.shared_rules.specs.Shared as rule
+use Rattle.placed_rules.specs.declared.pools.SharedPlan.{SharedPlan}
+use Rattle.placed_rules.specs.declared.pools.SharedPool.{SharedPool}
+use Rattle.placed_rules.specs.Pools.{has_group, seats}
+use Rattle.placed_rules.specs.Shared as rule
 use Rattle.shared_laws.specs.Berths as told
 use Rattle.shared_laws.proofs.GroupLines.{HeldAt}
 use Rattle.shared_laws.proofs.StarvedGroups.{starved_is_told}
@@ -60,7 +60,7 @@ module _ (q : SharedPlan) (s : State) (j : List Entry) (st : Stands q.plan (seat
         ∙ ap (λ c. c && queued q.plan j a b x) (eq-eqb g g refl)
 
     tested : (b : Branch) (g : ℕ) → group_of x b ≡ Some g
-        → told.starved_group q s pool state (seat_of b state) g ≡ rule.starved_by q j pool a b x g
+        → told.starved_group q s pool state (seat_of b state) g ≡ rule.starved_by q None j pool a b x g
     tested b g runs = λ i. has_group pool g
         && (begins b g runs i && starved_is_told q s j st at pool g i)
 
@@ -77,10 +77,10 @@ module _ (q : SharedPlan) (s : State) (j : List Entry) (st : Stands q.plan (seat
         })
 
     launched : (b : Branch) (g : ℕ) → group_of x b ≡ Some g
-        → option_map (next_of s) (when (rule.starved_by q j pool a b x g) (a, b))
-        ≡ when (rule.starved_by q j pool a b x g) (attempt_of a b (attempt j a b + 1))
+        → option_map (next_of s) (when (rule.starved_by q None j pool a b x g) (a, b))
+        ≡ when (rule.starved_by q None j pool a b x g) (attempt_of a b (attempt j a b + 1))
     launched b g runs =
-        by_bool (rule.starved_by q j pool a b x g) (λ c. option_map (next_of s) (when c (a, b))
+        by_bool (rule.starved_by q None j pool a b x g) (λ c. option_map (next_of s) (when c (a, b))
         ≡ when c (attempt_of a b (attempt j a b + 1)))
         (λ yes. let parts = and_parts (has_group pool g) _ yes in
         let waits = and_parts (queued q.plan j a b x) _ parts.1 in
@@ -90,17 +90,17 @@ module _ (q : SharedPlan) (s : State) (j : List Entry) (st : Stands q.plan (seat
     branch_by : (b : Branch) (o : Option ℕ) → group_of x b ≡ o
         → option_map (next_of s) (when (unwrap_or
         (option_map (told.starved_group q s pool state (seat_of b state)) o) false) (a, b))
-        ≡ rule.starved_branch q j pool a b x o
+        ≡ rule.starved_branch q None j pool a b x o
     branch_by b None h = refl
     branch_by b (Some g) h =
         ap (λ c. option_map (next_of s) (when c (a, b))) (tested b g h) ∙ launched b g h
 
     local_is : option_map (next_of s) (when (told.starved_branch q s pool state state.local)
-        (a, Local)) ≡ rule.starved_branch q j pool a Local x x.local
+        (a, Local)) ≡ rule.starved_branch q None j pool a Local x x.local
     local_is = branch_by Local x.local refl
 
     remote_is : option_map (next_of s) (when (told.starved_branch q s pool state state.remote)
-        (a, Remote)) ≡ rule.starved_branch q j pool a Remote x x.remote
+        (a, Remote)) ≡ rule.starved_branch q None j pool a Remote x x.remote
     remote_is = branch_by Remote x.remote refl
 
     -- one action, and those behind it
@@ -108,7 +108,7 @@ module _ (q : SharedPlan) (s : State) (j : List Entry) (st : Stands q.plan (seat
         → option_map (next_of s)
         (or_else (when (told.starved_branch q s pool state state.local) (a, Local))
         (or_else (when (told.starved_branch q s pool state state.remote) (a, Remote)) r))
-        ≡ or_else (rule.starved_in q j pool a x) t
+        ≡ or_else (rule.starved_in q None j pool a x) t
     action_is r t rest =
         let first = when (told.starved_branch q s pool state state.local) (a, Local) in
         let second = when (told.starved_branch q s pool state state.remote) (a, Remote) in
@@ -124,7 +124,7 @@ module _ (q : SharedPlan) (s : State) (j : List Entry) (st : Stands q.plan (seat
       → ((i : ℕ) → slice_get xs i ≡ slice_get q.plan.actions (a + i))
       → ((i : ℕ) → slice_get ys i ≡ option_map (state_in q.plan j (a + i)) (slice_get xs i))
       → option_map (next_of s) (told.starved_from q s pool a ys)
-      ≡ rule.starved_from q j pool a xs
+      ≡ rule.starved_from q None j pool a xs
   walk a [] [] there same = refl
   walk a [] (x ∷ xs) there same = absurd (let e = same 0 in cc)
   walk a (y ∷ ys) [] there same = absurd (let e = same 0 in cc)
@@ -145,9 +145,9 @@ module _ (q : SharedPlan) (s : State) (j : List Entry) (st : Stands q.plan (seat
       (or_else (when (told.starved_branch q s pool z z.remote) (a, Remote))
       (told.starved_from q s pool (a + 1) ys)))) here
       ∙ action_is a x place (told.starved_from q s pool (a + 1) ys)
-      (rule.starved_from q j pool (a + 1) xs) rest
+      (rule.starved_from q None j pool (a + 1) xs) rest
 
-  pub next_is_told : told.next_starved q s pool ≡ rule.next_starved q j pool
+  pub next_is_told : told.next_starved q s pool ≡ rule.next_starved q None j pool
   unfolding rule.next_starved
   next_is_told =
       let same : (i : ℕ) → i ≡ 0 + i = λ i. omega arith in

@@ -20,11 +20,11 @@ use Rattle.journal_laws.proofs.Fresh.{fresh}
 use Rattle.journal_laws.proofs.Lanes as la
 use Rattle.call_laws.proofs.LastLines as ll
 use Rattle.core_contract.specs.Disciplines.{LegalBy}
-use Rattle.shared_rules.specs.declared.pools.SharedPlan.{SharedPlan}
-use Rattle.shared_rules.specs.Needs.{says_something, silent_for}
-use Rattle.shared_rules.specs.Pools.{seats}
-use Rattle.shared_rules.specs.Shared.{shared_discipline}
-use Rattle.shared_rules.proofs.Lawful.{lawful}
+use Rattle.placed_rules.specs.declared.pools.SharedPlan.{SharedPlan}
+use Rattle.placed_rules.specs.Needs.{says_something, silent_for}
+use Rattle.placed_rules.specs.Pools.{seats}
+use Rattle.placed_rules.specs.Placed.{shared_discipline}
+use Rattle.placed_rules.proofs.PoolLawful.{lawful}
 use Rattle.shared_laws.specs.Spoken.{IsSpoken, berths_from, is_before, is_word, moved, noted}
 use Rattle.shared_laws.proofs.Moved as mo
 
@@ -64,7 +64,7 @@ says _ = Silence refl (λ k. refl) (λ k. refl)
 module _ (q : SharedPlan) (e : Entry) (j : List Entry) (ws : List ℕ)
     (legal : LegalBy (shared_discipline q) (e ∷ j)) (known : IsSpoken (seats q) j ws) where
   good : Lawful q.plan (e ∷ j)
-  good = lawful q (e ∷ j) legal
+  good = lawful q None (e ∷ j) legal
 
   quiet : (k : ℕ) → says_something k e.call ≡ false → silent_for (e ∷ j) k ≡ suc (silent_for j k)
   unfolding silent_for

@@ -16,10 +16,10 @@ use Rattle.ready_order.proofs.Queued.{earliest_is}
 use Rattle.core_state.specs.declared.state.State.{State}
 use Rattle.core_laws.specs.Stands.{Stands}
 use Rattle.earliest_first.specs.Choices as choices
-use Rattle.shared_rules.specs.declared.pools.SharedPlan.{SharedPlan}
-use Rattle.shared_rules.specs.declared.pools.SharedPool.{SharedPool}
-use Rattle.shared_rules.specs.Needs as needs
-use Rattle.shared_rules.specs.Pools.{seats}
+use Rattle.placed_rules.specs.declared.pools.SharedPlan.{SharedPlan}
+use Rattle.placed_rules.specs.declared.pools.SharedPool.{SharedPool}
+use Rattle.placed_rules.specs.Needs as needs
+use Rattle.placed_rules.specs.Pools.{seats}
 use Rattle.shared_laws.specs.Berths as told
 use Rattle.shared_laws.proofs.GroupLines.{HeldAt, is_in, is_roomy, is_held_in, roomy_is, held_is}
 use Rattle.shared_laws.proofs.LastLines.{passes, count_at, done_not_held}
@@ -120,7 +120,7 @@ module _ (q : SharedPlan) (s : State) (j : List Entry) (st : Stands q.plan (seat
       (needs.is_in_group q j g) (needs.all_lines j)))
 
   pub starved_is_told : HeldAt s j → (pool : SharedPool) (g : ℕ)
-      → told.is_starved q s pool g ≡ needs.is_starved q j pool g
+      → told.is_starved q s pool g ≡ needs.is_starved q None j pool g
   unfolding needs.is_starved
   starved_is_told at pool g = λ i. queued_some g i
       && (free_is_told g i && nat_lt (held_is_told at g i) (needs.most_lines q pool g))

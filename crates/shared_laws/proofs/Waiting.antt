@@ -33,7 +33,7 @@ use Rattle.call_laws.proofs.Gathers.{all_matches, gathers}
 use Rattle.call_laws.proofs.LastLines as ll
 use Rattle.call_laws.proofs.Owing as ow
 use Rattle.call_laws.proofs.Spent as sp
-use Rattle.shared_rules.specs.Needs.{waits_for_claim}
+use Rattle.placed_rules.specs.Needs.{waits_for_claim}
 use Rattle.shared_laws.proofs.Matched as ma
 use Rattle.shared_laws.proofs.Members.{Member, one_more}
 

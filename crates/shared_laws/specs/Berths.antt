@@ -20,10 +20,10 @@ use Rattle.core_state.specs.declared.state.State.{State}
 use Rattle.core_state.specs.Choices.{attempt_at}
 use Rattle.core_state.specs.Machine.{order_at}
 use Rattle.earliest_first.specs.Choices.{has_room, next_of}
-use Rattle.shared_rules.specs.declared.pools.SharedPlan.{SharedPlan}
-use Rattle.shared_rules.specs.declared.pools.SharedPool.{SharedPool}
-use Rattle.shared_rules.specs.Needs.{most_lines}
-use Rattle.shared_rules.specs.Pools.{has_group, same_pool, seats}
+use Rattle.placed_rules.specs.declared.pools.SharedPlan.{SharedPlan}
+use Rattle.placed_rules.specs.declared.pools.SharedPool.{SharedPool}
+use Rattle.placed_rules.specs.Needs.{most_lines}
+use Rattle.placed_rules.specs.Pools.{has_group, same_pool, seats}
 use Rattle.shared_laws.specs.Spoken.{is_before}
 
 -- ---- berths

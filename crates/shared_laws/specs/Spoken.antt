@@ -7,7 +7,7 @@ use Rattle.exec_journal.specs.declared.reply.Reply.{Reply}
 use Rattle.exec_journal.specs.Entry.{Entry}
 use Rattle.exec_journal.specs.Entries.{is_kept}
 use Rattle.exec_journal.specs.Words.{last_line, started}
-use Rattle.shared_rules.specs.Needs.{silent_for}
+use Rattle.placed_rules.specs.Needs.{silent_for}
 
 -- the n berths from w on, of which none has said anything
 abbrev pub berths_from : ℕ → ℕ → List ℕ

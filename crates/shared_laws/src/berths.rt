@@ -1,16 +1,16 @@
 //! The tables' facts about a berth's last line.
-ghost use Rattle.std.specs.Prelude.{◌≡◌, ◌<◌, ℕ, not, false, List, Some};
+ghost use Rattle.std.specs.Prelude.{◌≡◌, ◌<◌, ℕ, not, false, List, Some, None};
 ghost use Rattle.exec_journal.specs.Entry.{Entry};
 ghost use Rattle.exec_journal.specs.Rules.{is_vacant};
 ghost use Rattle.exec_journal.specs.Words.{halted, last_line};
 ghost use Rattle.core_contract.specs.Disciplines.{LegalBy};
 ghost use Rattle.core_state.specs.declared.state.State.{State};
 ghost use Rattle.core_laws.specs.Stands.{Stands};
-ghost use Rattle.shared_rules.specs.declared.pools.SharedPlan.{SharedPlan};
-ghost use Rattle.shared_rules.specs.declared.pools.SharedPool.{SharedPool};
-ghost use Rattle.shared_rules.specs.Needs as needs;
-ghost use Rattle.shared_rules.specs.Pools.{seats};
-ghost use Rattle.shared_rules.specs.Shared.{shared_discipline};
+ghost use Rattle.placed_rules.specs.declared.pools.SharedPlan.{SharedPlan};
+ghost use Rattle.placed_rules.specs.declared.pools.SharedPool.{SharedPool};
+ghost use Rattle.placed_rules.specs.Needs as needs;
+ghost use Rattle.placed_rules.specs.Pools.{seats};
+ghost use Rattle.placed_rules.specs.Placed.{shared_discipline};
 ghost use Rattle.shared_laws.specs.Berths.{holds, may_evict, rests};
 ghost use Rattle.shared_laws.specs.Spoken.{IsSpoken};
 
@@ -34,5 +34,5 @@ pub fn evictions_are_told()
     ensures { (q : SharedPlan) (s : State) (j : List Entry) (ws : List ℕ) (w l : ℕ)
         (pool : SharedPool) → Stands q.plan (seats q) s j → LegalBy (shared_discipline q) j
         → halted j ≡ false → IsSpoken (seats q) j ws → last_line j w ≡ Some l
-        → may_evict q s ws w pool ≡ needs.may_evict q j w pool l }
+        → may_evict q s ws w pool ≡ needs.may_evict q None j w pool l }
 {}

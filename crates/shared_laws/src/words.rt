@@ -5,9 +5,9 @@ ghost use Rattle.exec_journal.specs.declared.reply.Reply.{Reply};
 ghost use Rattle.exec_journal.specs.Entry.{Entry};
 ghost use Rattle.exec_journal.specs.Legal.{after};
 ghost use Rattle.core_contract.specs.Disciplines.{LegalBy};
-ghost use Rattle.shared_rules.specs.declared.pools.SharedPlan.{SharedPlan};
-ghost use Rattle.shared_rules.specs.Pools.{seats};
-ghost use Rattle.shared_rules.specs.Shared.{shared_discipline};
+ghost use Rattle.placed_rules.specs.declared.pools.SharedPlan.{SharedPlan};
+ghost use Rattle.placed_rules.specs.Pools.{seats};
+ghost use Rattle.placed_rules.specs.Placed.{shared_discipline};
 ghost use Rattle.shared_laws.specs.Spoken.{IsSpoken, berths_from, noted};
 
 /// The order in which berths last reported follows the journal.

@@ -12,12 +12,12 @@ use Rattle.run_tasks.specs.declared.task.Task.{Task}
 use Rattle.shared_berths.specs.declared.SharedBerths.{SharedBerths}
 use Rattle.shared_berths.specs.Laws.{basis_is}
 use Rattle.shared_berths.specs.Stands.{StandsBy, shared_by}
-use Rattle.shared_rules.proofs.Usable.{usable_is}
-use Rattle.shared_rules.specs.Kept.{SharedKept}
-use Rattle.shared_rules.specs.Runnable.{EachHasPool}
-use Rattle.shared_rules.specs.declared.pools.SharedPlan.{SharedPlan}
-use Rattle.shared_rules.specs.Pools.{SoundPools, is_remote_berth, seats, usable}
-use Rattle.shared_rules.specs.Shared.{shared_discipline}
+use Rattle.placed_rules.proofs.Usable.{usable_is}
+use Rattle.placed_rules.specs.Kept.{SharedKept}
+use Rattle.placed_rules.specs.Runnable.{EachHasPool}
+use Rattle.placed_rules.specs.declared.pools.SharedPlan.{SharedPlan}
+use Rattle.placed_rules.specs.Pools.{SoundPools, is_remote_berth, seats, usable}
+use Rattle.placed_rules.specs.Placed.{shared_discipline}
 use Rattle.shared_tasks.specs.declared.reading.SharedTask.{SharedTask}
 use Rattle.shared_tasks.specs.Tasks.{MayBeShared}
 use Rattle.shared_runs.specs.Headline as headline

@@ -8,11 +8,11 @@ use Rattle.outside.specs.declared.floor.FloorRead.{FloorRead}
 use Rattle.progress_laws.specs.Few.{CallsAreFew}
 use Rattle.run_plan.specs.declared.plan.Plan.{Plan}
 use Rattle.run_tasks.specs.declared.task.Task.{Task}
-use Rattle.shared_rules.specs.declared.pools.SharedPlan.{SharedPlan}
-use Rattle.shared_rules.specs.declared.pools.SharedPool.{SharedPool}
-use Rattle.shared_rules.specs.Kept.{SharedKept}
-use Rattle.shared_rules.specs.Pools.{seats}
-use Rattle.shared_rules.specs.Shared.{shared_discipline}
+use Rattle.placed_rules.specs.declared.pools.SharedPlan.{SharedPlan}
+use Rattle.placed_rules.specs.declared.pools.SharedPool.{SharedPool}
+use Rattle.placed_rules.specs.Kept.{SharedKept}
+use Rattle.placed_rules.specs.Pools.{seats}
+use Rattle.placed_rules.specs.Placed.{shared_discipline}
 use Rattle.shared_tasks.specs.Course.{Made, SharedCourse}
 use Rattle.shared_tasks.specs.declared.reading.SharedTask.{SharedTask}
 use Rattle.shared_tasks.specs.declared.words.SharedOptions.{SharedOptions}

@@ -2,8 +2,8 @@
 use Rattle.std.proofs.Common.{◌≡◌, ◌∙◌, ◌*◌, ◌==◌, ℕ, zero, suc, true, List, [], length, Option, Some, None, IfSome, arith, ap, refl, subst, sym, eq-eqb}
 use Rattle.core_contract.specs.Discipline.{Discipline}
 use Rattle.core_contract.specs.Disciplines.{own_discipline}
-use Rattle.delay_rules.specs.Bounds.{DelayedKept}
-use Rattle.delay_rules.specs.Delayed.{delayed_discipline}
+use Rattle.placed_rules.specs.Kept.{DelayedKept}
+use Rattle.placed_rules.specs.Placed.{delayed_discipline}
 use Rattle.exec_journal.specs.Kept.{Kept}
 use Rattle.lane_runs.specs.Paced.{HasPaced, MayPace}
 use Rattle.local_delay.specs.Counts.{Facts}

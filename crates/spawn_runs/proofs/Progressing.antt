@@ -1,7 +1,7 @@
 -- A run by strategies never waits for itself, and its journal has few entries.
 use Rattle.std.proofs.Common.{◌*◌, ◌+◌, ◌≡◌, ℕ, zero, suc, List}
 use Rattle.core_contract.specs.Disciplines.{LegalBy, own_discipline}
-use Rattle.delay_rules.specs.Delayed.{delayed_discipline}
+use Rattle.placed_rules.specs.Placed.{delayed_discipline}
 use Rattle.exec_journal.specs.Entry.{Entry}
 use Rattle.run_values.specs.Runnable.{EachHasBerth}
 use Rattle.progress_laws.proofs.Delay as delay

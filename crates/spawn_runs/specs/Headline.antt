@@ -3,8 +3,9 @@ use Rattle.std.specs.Prelude.{◌≡◌, ◌*◌, ◌+◌, ℕ, zero, suc, IfOk,
 use Rattle.build_report.specs.declared.fault.RunFault.{RunFault}
 use Rattle.core_contract.specs.Discipline.{Discipline}
 use Rattle.core_contract.specs.Disciplines.{own_discipline}
-use Rattle.delay_rules.specs.Bounds.{DelayedKept}
-use Rattle.delay_rules.specs.Delayed.{delayed_discipline, delayed_seats}
+use Rattle.placed_rules.specs.Kept.{DelayedKept}
+use Rattle.placed_rules.specs.Placed.{delayed_discipline}
+use Rattle.placed_rules.specs.Own.{delayed_seats}
 use Rattle.exec_journal.specs.Entry.{Entry}
 use Rattle.exec_journal.specs.Kept.{Kept}
 use Rattle.outside.specs.Causes.{Counts}

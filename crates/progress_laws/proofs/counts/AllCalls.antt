@@ -15,8 +15,8 @@ use Rattle.exec_journal.proofs.Reasons as u
 use Rattle.exec_journal.proofs.Ruled as ru
 use Rattle.journal_laws.proofs.Lanes.{is_order}
 use Rattle.journal_laws.proofs.Over as v
-use Rattle.delay_rules.specs.Bounds.{is_noted, is_noted_tick}
-use Rattle.delay_rules.specs.Delayed.{is_tick}
+use Rattle.placed_rules.specs.Bounds.{is_noted, is_noted_tick}
+use Rattle.placed_rules.specs.Due.{is_tick}
 use Rattle.progress_laws.specs.Few.{AllWithin, CallsAreFewButTicks, is_noise, most_tries}
 use Rattle.progress_laws.proofs.counts.OfAnswers.{answers_few}
 use Rattle.progress_laws.proofs.counts.OfLanes.{commits_few, leaves_few, reports_few}

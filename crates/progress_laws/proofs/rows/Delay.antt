@@ -18,7 +18,8 @@ use Rattle.exec_journal.specs.Words.{halted}
 use Rattle.exec_journal.proofs.Parts.{dynamic, entry, plan_of, remote, single}
 use Rattle.journal_laws.proofs.rows.Opened.{words}
 use Rattle.core_contract.specs.Disciplines.{LegalBy}
-use Rattle.delay_rules.specs.Delayed.{delayed_discipline, delayed_earliest, has_waited, ticks_since}
+use Rattle.placed_rules.specs.Placed.{delayed_discipline}
+use Rattle.placed_rules.specs.Due.{delayed_earliest, has_waited, ticks_since}
 use Rattle.progress_laws.specs.Awaits.{Awaits}
 use Rattle.progress_laws.specs.Rests.{AllRest, Hears, Idles}
 use Rattle.run_values.specs.Runnable.{EachHasBerth, HasBerth}

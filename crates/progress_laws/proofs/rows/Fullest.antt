@@ -21,7 +21,8 @@ use Rattle.journal_laws.proofs.Decided.{legal_by}
 use Rattle.journal_laws.proofs.rows.Opened.{words}
 use Rattle.discipline_laws.proofs.OwnDiscipline.{legal_own}
 use Rattle.core_contract.specs.Disciplines.{LegalBy, own_discipline}
-use Rattle.delay_rules.specs.Delayed.{delayed_discipline, delayed_seats}
+use Rattle.placed_rules.specs.Placed.{delayed_discipline}
+use Rattle.placed_rules.specs.Own.{delayed_seats}
 use Rattle.progress_laws.specs.Few.{CallsAreFew, DelayedCallsAreFew, is_noise, most_tries}
 use Rattle.progress_laws.proofs.counts.Disciplines.{delayed_few, own_few}
 use Rattle.progress_laws.proofs.rows.Delay.{delayed_words}

@@ -15,7 +15,7 @@ use Rattle.journal_laws.proofs.Decided.{legal_by}
 use Rattle.journal_laws.proofs.rows.Opened.{words}
 use Rattle.discipline_laws.proofs.OwnDiscipline.{legal_own}
 use Rattle.core_contract.specs.Disciplines.{LegalBy, own_discipline}
-use Rattle.shared_rules.proofs.Rows.{committed_9}
+use Rattle.placed_rules.proofs.PoolRows.{committed_9}
 use Rattle.progress_laws.specs.Awaits.{Awaits, AwaitsEnd, Owes}
 use Rattle.progress_laws.specs.Rests.{AllLeft, AllRest, Hears, Left, has_left}
 use Rattle.progress_laws.proofs.Own.{ends_or_waits, leave}

@@ -14,7 +14,7 @@ use Rattle.journal_laws.specs.IsLegal.{is_legal}
 use Rattle.journal_laws.proofs.Decided.{legal_by}
 use Rattle.journal_laws.proofs.Ours as ours
 use Rattle.journal_laws.proofs.rows.Opened.{words}
-use Rattle.shared_rules.proofs.Rows.{committed_9}
+use Rattle.placed_rules.proofs.PoolRows.{committed_9}
 use Rattle.progress_laws.specs.Awaits.{Awaits}
 use Rattle.progress_laws.specs.Quiet.{AllQuiet, IsFree, IsQuietBerth, NoneOwes}
 use Rattle.progress_laws.proofs.Berths.{berth_at_rest}

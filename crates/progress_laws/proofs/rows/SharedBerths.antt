@@ -10,13 +10,14 @@ use Rattle.exec_journal.proofs.Parts.{plan_of, single, worker}
 use Rattle.journal_laws.specs.Invariant.{claimed}
 use Rattle.journal_laws.proofs.rows.Opened.{words}
 use Rattle.core_contract.specs.Disciplines.{LegalBy}
-use Rattle.shared_rules.specs.Pools.{seats}
-use Rattle.shared_rules.specs.Shared.{next_starved, shared_discipline}
-use Rattle.shared_rules.specs.Needs.{all_lines, has_match_waiting, is_starved, may_evict, silent_for}
-use Rattle.shared_rules.proofs.Rows.{one_pool, second}
+use Rattle.placed_rules.specs.Pools.{seats}
+use Rattle.placed_rules.specs.Shared.{next_starved}
+use Rattle.placed_rules.specs.Placed.{shared_discipline}
+use Rattle.placed_rules.specs.Needs.{all_lines, has_match_waiting, is_starved, may_evict, silent_for}
+use Rattle.placed_rules.proofs.PoolRows.{one_pool, second}
 use Rattle.progress_laws.specs.Awaits.{Awaits}
 use Rattle.progress_laws.specs.Rests.{AllRest, Hears, Idles}
-use Rattle.shared_rules.specs.Runnable.{EachHasPool, HasPool}
+use Rattle.placed_rules.specs.Runnable.{EachHasPool, HasPool}
 use Rattle.progress_laws.proofs.Options.{some_same}
 use Rattle.progress_laws.proofs.Shared.{never_stuck}
 use Rattle.progress_laws.proofs.rows.OwnBerths.{asked_5}

@@ -16,10 +16,10 @@ use Rattle.journal_laws.proofs.Decided.{legal_by}
 use Rattle.journal_laws.proofs.rows.Opened.{words}
 use Rattle.discipline_laws.proofs.OwnDiscipline.{legal_own}
 use Rattle.core_contract.specs.Disciplines.{LegalBy, own_discipline}
-use Rattle.delay_rules.specs.Delayed.{delayed_discipline}
-use Rattle.shared_rules.specs.declared.pools.SharedPlan.{SharedPlan}
-use Rattle.shared_rules.specs.Pools.{seats}
-use Rattle.shared_rules.specs.Shared.{shared_discipline}
+use Rattle.placed_rules.specs.Placed.{delayed_discipline}
+use Rattle.placed_rules.specs.declared.pools.SharedPlan.{SharedPlan}
+use Rattle.placed_rules.specs.Pools.{seats}
+use Rattle.placed_rules.specs.Placed.{shared_discipline}
 use Rattle.progress_laws.specs.Awaits.{Awaits}
 use Rattle.progress_laws.specs.Rests.{AllRest, Idles}
 use Rattle.progress_laws.proofs.rows.Delay.{delayed_words}

@@ -2,8 +2,8 @@ use Rattle.std.proofs.Common.{ap, cond, refl, ◌∙◌, [], IfOk}
 use Rattle.std.proofs.lemmas.Bool.{le-leb}
 use Rattle.run_plan.specs.Limits.{most_berths}
 use Rattle.spawn_core.specs.Stands.{StandsIn}
-use Rattle.shared_rules.specs.Shared.{shared_discipline}
-use Rattle.shared_rules.specs.Pools.{seats, usable_seats}
+use Rattle.placed_rules.specs.Placed.{shared_discipline}
+use Rattle.placed_rules.specs.Pools.{seats, usable_seats}
 use Rattle.shared_laws.specs.Spoken.{berths_from}
 use Rattle.shared_berths.specs.declared.SharedBerths.{SharedBerths}
 use Rattle.shared_berths.specs.Stands.{StandsBy}

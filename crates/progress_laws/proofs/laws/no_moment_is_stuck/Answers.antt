@@ -1,9 +1,9 @@
 use Rattle.std.proofs.Common.{◌*◌, ◌+◌}
 use Rattle.run_plan.specs.Groups.{berths}
 use Rattle.core_contract.specs.Disciplines.{own_discipline}
-use Rattle.delay_rules.specs.Delayed.{delayed_discipline}
-use Rattle.shared_rules.specs.Pools.{seats}
-use Rattle.shared_rules.specs.Shared.{shared_discipline}
+use Rattle.placed_rules.specs.Placed.{delayed_discipline}
+use Rattle.placed_rules.specs.Pools.{seats}
+use Rattle.placed_rules.specs.Placed.{shared_discipline}
 use Rattle.progress_laws.proofs.Delay as delay
 use Rattle.progress_laws.proofs.Moments.{never_stuck}
 use Rattle.progress_laws.proofs.Own as own

@@ -1,6 +1,6 @@
-use Rattle.std.proofs.Common.{◌≡◌, Some, ap, ◌∙◌}
+use Rattle.std.proofs.Common.{ap, ◌∙◌}
 use Rattle.std.specs.Prelude.{slice_get}
-use Rattle.shared_rules.specs.Pools.{pool_at}
+use Rattle.placed_rules.specs.Pools.{pool_at}
 use Rattle.shared_berths.specs.Stands.{shared_by}
 use Rattle.shared_berths.proofs.PoolPlaces.{stands_there}
 use Rattle.shared_berths.proofs.Searched.{least_is}

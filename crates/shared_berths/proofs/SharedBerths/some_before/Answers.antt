@@ -1,5 +1,5 @@
 use Rattle.std.proofs.Common.{◌&&◌, refl, sym, ◌∙◌, arith}
-use Rattle.shared_rules.specs.Pools.{same_pool}
+use Rattle.placed_rules.specs.Pools.{same_pool}
 use Rattle.shared_laws.specs.Berths.{goes_before, some_before}
 use Rattle.shared_berths.specs.Stands.{shared_by}
 use Rattle.shared_berths.proofs.Below.{found}

@@ -1,5 +1,4 @@
-use Rattle.std.proofs.Common.{◌≡◌, ap, sym, subst, ◌∙◌, [], arith}
-use Rattle.std.specs.Prelude.{replicate}
+use Rattle.std.proofs.Common.{ap, sym, subst, ◌∙◌, arith}
 use Rattle.std.proofs.lemmas.List.{drop_all}
 use Rattle.shared_berths.specs.Homes.{AreHomes, homes_from}
 use Rattle.shared_berths.proofs.HomesNoted.{are_homes}

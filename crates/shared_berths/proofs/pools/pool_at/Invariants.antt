@@ -1,5 +1,5 @@
 use Rattle.std.proofs.Common.{◌≡◌, drop}
-use Rattle.shared_rules.specs.Pools.{pool_at}
+use Rattle.placed_rules.specs.Pools.{pool_at}
 use Rattle.shared_berths.proofs.pools.pool_at.Given as goal
 
 -- among the pools from here on

@@ -1,5 +1,5 @@
 use Rattle.std.proofs.Common.{◌≡◌, drop}
-use Rattle.shared_rules.specs.Pools.{pool_from}
+use Rattle.placed_rules.specs.Pools.{pool_from}
 use Rattle.shared_berths.proofs.pools.pool_of.Given as goal
 
 -- among the pools from here on

@@ -2,6 +2,7 @@ use Rattle.std.proofs.Common.{◌≡◌, ℕ, ◌<◌, ◌+◌, Some, length, re
 use Rattle.std.specs.Prelude.{slice_get, slice_set}
 use Rattle.std.proofs.lemmas.Bool.{lt-leb}
 use Rattle.std.proofs.lemmas.Option.{slice_get_read}
+use Rattle.ready_order.specs.Queue.{is_ready_at}
 use Rattle.local_delay.specs.Counts.{Facts, IsCounted, more}
 use Rattle.local_delay.specs.declared.delay.LocalDelay.TheInside.{Inside}
 use Rattle.local_delay.proofs.Counting.{CountedBelow, all_counted, next_counted}
@@ -42,7 +43,7 @@ module _ (c : goal.Joined-count-self) where
       c.index.ensures in
       subst (λ m. CountedBelow states c.self.inside.ticks (n + 1) c.self.inside.counts.items
       (slice_set now.counts.items n m))
-      (sym (c.more-count.ensures ∙ (λ i. more (c.is_ready-made.ensures i)
+      (sym (c.more-count.ensures ∙ (λ i. more (is_ready_at states n)
       (c.loop-number.invariant.ticks i) c.index.result.now)))
       (next_counted states c.self.inside.ticks n c.self.inside.counts.items now.counts.items
       c.loop-number.invariant.counts lt c.index.result.now at)

@@ -3,7 +3,8 @@ use Rattle.std.proofs.lemmas.Bool.{and_from}
 use Rattle.run_plan.specs.declared.plan.Plan.{Plan}
 use Rattle.exec_journal.specs.Attempts.{begun_in}
 use Rattle.exec_journal.specs.Entries.{is_kept}
-use Rattle.delay_rules.specs.Delayed.{delayed_seats, is_tick}
+use Rattle.placed_rules.specs.Own.{delayed_seats}
+use Rattle.placed_rules.specs.Due.{is_tick}
 use Rattle.local_delay.specs.Choices.{last_of}
 use Rattle.local_delay.specs.Counts.{IsMarked}
 use Rattle.local_delay.proofs.Noted.{and_none, ticked, uncounted}

@@ -1,5 +1,5 @@
 use Rattle.std.proofs.Common.{sym, ◌∙◌}
-use Rattle.shared_rules.proofs.Usable.{usable_berths}
+use Rattle.placed_rules.proofs.Usable.{usable_berths}
 use Rattle.shared_berths.specs.Stands.{shared_by}
 use Rattle.shared_berths.proofs.policy.SharedBerthsPolicy.berths.Goals as goal
 

@@ -1,6 +1,0 @@
-pub mod Nexts
-pub mod Lawful
-pub mod Keeping
-pub mod Bounded
-mod Rows
-pub mod Ruling

@@ -1,3 +1,0 @@
--- What the laws cite.
-pub mod Delayed
-pub mod Bounds

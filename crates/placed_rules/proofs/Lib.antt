@@ -1,0 +1,17 @@
+pub mod Nexts
+pub mod Ticking
+pub mod Reasons
+pub mod OwnLawful
+pub mod OwnKeeping
+pub mod OwnRuling
+pub mod OwnRows
+pub mod PoolLawful
+pub mod PoolKeeping
+pub mod Pooled
+pub mod PoolRuling
+pub mod PoolRows
+pub mod PlacedRows
+pub mod Bounded
+pub mod Whole
+pub mod Usable
+pub mod Evicting

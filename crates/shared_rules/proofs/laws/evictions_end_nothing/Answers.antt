@@ -1,5 +1,0 @@
-use Rattle.shared_rules.proofs.Evicting as evicting
-use Rattle.shared_rules.proofs.laws.evictions_end_nothing.Goals as goal
-
-pub returns : goal.returns
-returns c = record { empty = evicting.empty; unsent = evicting.unsent; ends = evicting.ends_none }
