@@ -144,6 +144,19 @@ def large_inputs() -> list[Row]:
     return rows + made_inputs() + scattered_inputs()
 
 
+def kept_inputs() -> list[Row]:
+    """Returns rows of actions that share their large inputs. On a disk these are written twice for each process, in memory for each action."""
+    write("in/0", "x" * 10)
+    rows = []
+    for size, count, actions in ((MIB, 30, 40), (10 * MIB, 10, 20), (65536, 200, 40)):
+        names = [f"kept{size}/{it}" for it in range(count)]
+        for number, name in enumerate(names):
+            write(name, bytes([number]) * size)
+        write_list(f"kept{size}", [copy_action(it, ["in/0", *names]) for it in range(actions)])
+        rows.append(tool(f"{count} inputs of {size // 1024:,} KiB, shared by {actions} actions", f"--instances=1 kept{size}.json", actions, actions))
+    return rows
+
+
 def made_inputs() -> list[Row]:
     """Returns rows of 40 readers of 4 MiB, as a source and as an output of an earlier action."""
     write("big", b"x" * 4 * MIB)
@@ -258,7 +271,7 @@ def front() -> list[Row]:
 
 # Each group, in the order of the page. A group's rows run in turn in one folder.
 GROUPS: dict[str, Callable[[], list[Row]]] = {
-    "copies": small_files, "sizes": sizes, "boxed": several_rooms, "inputs": large_inputs, "memory": memory, "lists": lists,
+    "copies": small_files, "sizes": sizes, "boxed": several_rooms, "inputs": large_inputs, "kept": kept_inputs, "memory": memory, "lists": lists,
     "journals": journals, "generated": in_memory, "jobs": jobs, "waiting": waiting, "front": front,
 }
 

@@ -2,11 +2,12 @@
 use crate::paths::path_beside;
 use libc::types::rlimit;
 use std::alloc::Global;
-use std::fs::{self, File, Metadata, OpenFile};
+use std::fs::{self, File, FileTimes, Metadata, OpenFile};
 use std::io::{self, ErrorKind, Read, Write};
 use std::os::unix::fs::{MetadataExt, OpenOptionsExt};
 use std::path::Path;
 use std::rt::Files;
+use std::time::Duration;
 
 /// The mode of a new file, before the process's umask: all permissions, since a compiler's output may be a program.
 const MODE: u32 = 0o777;
@@ -17,8 +18,41 @@ pub(crate) const MOST_BYTES: u64 = 1 << 32;
 /// Linux's RLIMIT_FSIZE, for which the kit has no name.
 const LIMIT_OF_FILES: i32 = 1;
 
+/// How far a time is set back, in seconds.
+const BACK: u64 = 1;
+
 /// The size of each further read, in bytes, if a file is longer than it was.
 const PART: usize = 65536;
+
+/// What a new file is filled with.
+#[derive(Clone, Copy)]
+pub(crate) struct Filling<'a> {
+    pub(crate) bytes: &'a [u8],
+    pub(crate) times: Times,
+    /// The largest size of a file that this process may write, in bytes. A larger file isn't begun, since the write would
+    /// end the process by a signal.
+    pub(crate) most: u64,
+}
+
+/// The time of a new file's last write.
+#[derive(Clone, Copy, PartialEq, Eq)]
+pub(crate) enum Times {
+    /// The time at which it is written.
+    Now,
+    /// One second before that, so that a write by anybody else changes it. Without effect if the system refuses that.
+    Back,
+}
+
+impl<'a> Filling<'a> {
+    /// Returns these bytes for a file that is written now.
+    pub(crate) fn now(bytes: &'a [u8]) -> Filling<'a> {
+        Filling {
+            bytes,
+            times: Times::Now,
+            most: most_of_limit(),
+        }
+    }
+}
 
 /// Returns the bytes of a regular file, or `None` if there is no such file. Links are followed.
 pub fn read_regular<R: Files + AllocGlobal>(rt: &R, path: &str) -> io::Result<Option<Vec<u8>>> {
@@ -113,18 +147,33 @@ pub fn write_beside<R: Files>(
     path: &str,
     bytes: &[u8],
 ) -> io::Result<()> {
+    fill_beside(rt, alloc, name, path, &Filling::now(bytes))
+}
+
+/// Same as `write_beside`.
+pub(crate) fn fill_beside<R: Files>(
+    rt: &R,
+    alloc: Global,
+    name: &str,
+    path: &str,
+    filling: &Filling<'_>,
+) -> io::Result<()> {
     let beside = path_beside(alloc, name, path)?;
     let file = new_file(rt, beside.as_str())?;
-    let written = fill(file, bytes).and_then(|()| fs::rename(rt, beside.as_str(), path));
+    let written = fill(file, filling).and_then(|()| fs::rename(rt, beside.as_str(), path));
     undo_if_failed(rt, beside.as_str(), written)
 }
 
 /// Writes a file if nothing exists at its path. Otherwise writes nothing and returns `None`.
-pub(crate) fn write_new<R: Files>(rt: &R, path: &str, bytes: &[u8]) -> io::Result<Option<()>> {
+pub(crate) fn fill_new<R: Files>(
+    rt: &R,
+    path: &str,
+    filling: &Filling<'_>,
+) -> io::Result<Option<()>> {
     match create_new(rt, path) {
         Err(error) if error.kind() == ErrorKind::AlreadyExists => Ok(None),
         Err(error) => Err(error),
-        Ok(file) => undo_if_failed(rt, path, fill(file, bytes)).map(Some),
+        Ok(file) => undo_if_failed(rt, path, fill(file, filling)).map(Some),
     }
 }
 
@@ -160,17 +209,31 @@ fn make_folders<R: Files>(rt: &R, path: &str) -> io::Result<()> {
     }
 }
 
-// Writes all bytes of a new file. A file above the size limit isn't begun, since the write would end the process by a
-// signal.
-fn fill<W: Write + Drop>(mut file: W, bytes: &[u8]) -> io::Result<()> {
-    if u64::try_from(bytes.len()).unwrap_or(u64::MAX) > most_of_limit() {
+// Writes all bytes of a new file.
+fn fill<W: Write + OpenFile + Drop>(mut file: W, filling: &Filling<'_>) -> io::Result<()> {
+    if u64::try_from(filling.bytes.len()).unwrap_or(u64::MAX) > filling.most {
         return Err(io::Error::from_raw_os_error(libc::EFBIG));
     }
-    file.write_all(bytes)
+    file.write_all(filling.bytes)?;
+    if filling.times == Times::Back {
+        let _ = set_back(&file);
+    }
+    Ok(())
 }
 
-// Returns the largest size of a file that this process may write, in bytes.
-fn most_of_limit() -> u64 {
+fn set_back<W: OpenFile>(file: &W) -> io::Result<()> {
+    match file
+        .metadata()?
+        .modified()?
+        .checked_sub(Duration::from_secs(BACK))
+    {
+        Some(time) => file.set_times(FileTimes::new().set_modified(time)),
+        None => Ok(()),
+    }
+}
+
+/// Returns the largest size of a file that this process may write, in bytes.
+pub(crate) fn most_of_limit() -> u64 {
     let mut limit = rlimit {
         rlim_cur: u64::MAX,
         rlim_max: u64::MAX,

@@ -17,6 +17,10 @@ const OPEN_FOLDER: u32 = 0o700;
 /// The folder in which the system has a link, by descriptor, to each file and folder that the process holds open.
 const OPEN_FILES: &str = "/proc/self/fd";
 
+/// The number from which on a file or a folder is one of many that the run holds open, since the system gives the lowest
+/// free number. A process often may hold no more than 1,024.
+const MANY: i32 = 128;
+
 /// A folder that is held open. It is closed when it is dropped.
 pub(crate) struct Folder {
     fd: i32,
@@ -103,6 +107,11 @@ impl Folder {
             opened => opened?,
         };
         Ok(opened.as_own())
+    }
+
+    /// Returns true if the run holds many files and folders open.
+    pub(crate) fn is_one_of_many(&self) -> bool {
+        self.fd >= MANY
     }
 
     fn as_own(mut self) -> Folder {

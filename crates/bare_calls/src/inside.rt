@@ -1,5 +1,5 @@
 // The bare calls on files and folders below an open folder. No link is followed there. What they do is trusted.
-use crate::disk::{MOST_BYTES, read_same, write_beside, write_new};
+use crate::disk::{Filling, MOST_BYTES, fill_beside, fill_new, read_same};
 use crate::folder::{Folder, is_no_folder, make_below, open_below, split};
 use std::alloc::Global;
 use std::rt::Files;
@@ -32,9 +32,10 @@ pub fn write_inside<R: Files + AllocGlobal>(
 ) -> io::Result<()> {
     let top = Folder::made_at(rt, alloc, folder)?;
     let (folders, name) = split(path);
+    let filling = Filling::now(bytes);
     match make_below(rt, alloc, &top, folders)? {
-        Some(below) => write_in(rt, alloc, &below, name, beside, bytes),
-        None => write_in(rt, alloc, &top, name, beside, bytes),
+        Some(below) => write_in(rt, alloc, &below, name, beside, &filling),
+        None => write_in(rt, alloc, &top, name, beside, &filling),
     }
 }
 
@@ -83,11 +84,11 @@ pub(crate) fn write_in<R: Files>(
     folder: &Folder,
     name: &str,
     beside: &str,
-    bytes: &[u8],
+    filling: &Filling<'_>,
 ) -> io::Result<()> {
     let path = folder.path_of(alloc, name)?;
-    match write_new(rt, path.as_str(), bytes)? {
+    match fill_new(rt, path.as_str(), filling)? {
         Some(()) => Ok(()),
-        None => write_beside(rt, alloc, beside, path.as_str(), bytes),
+        None => fill_beside(rt, alloc, beside, path.as_str(), filling),
     }
 }

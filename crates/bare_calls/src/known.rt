@@ -4,8 +4,11 @@ use std::alloc::{AllocError, Global};
 use std::io;
 use std::rt::Files;
 
-/// The largest number of folders of a room that are held open, the room itself included.
-const MOST_FOLDERS: usize = 6;
+/// The largest number of folders in a room that are held open.
+const MOST_FOLDERS: usize = 24;
+
+/// The same if the run holds many files and folders open.
+const FEW_FOLDERS: usize = 5;
 
 /// The largest number of known files in a folder. Others are searched for.
 const MOST_FILES: usize = 4096;
@@ -61,18 +64,34 @@ impl Known {
         if self.folder(path).is_some() {
             return Ok(());
         }
-        if self.folders.len() >= MOST_FOLDERS - 1 {
-            self.folders.clear();
-        }
         let mut end: usize = 0;
         for name in path.split('/') {
             end = next_end(end, name);
             let way = path.get(..end).unwrap_or(path);
             if self.folder(way).is_none() {
+                self.close_some(path);
                 self.open_next(rt, alloc, way)?;
             }
         }
         Ok(())
+    }
+
+    // Closes the folders that were opened first, except for those on the way to a path, until there is room for one more.
+    fn close_some(&mut self, path: &str) {
+        let most = match self.folders.last() {
+            Some(last) if last.folder.is_one_of_many() => FEW_FOLDERS,
+            _ => MOST_FOLDERS,
+        };
+        for _ in 0..MOST_FOLDERS {
+            if self.folders.len() < most {
+                break;
+            }
+            let closed = self
+                .folders
+                .iter()
+                .position(|known| !is_above(known.path.as_str(), path));
+            self.folders.remove(closed.unwrap_or(0));
+        }
     }
 
     // Opens a folder whose parent folder is held open.
@@ -82,9 +101,6 @@ impl Known {
             Some(above) => above.open_or_make(rt, alloc, name)?,
             None => return Err(io::Error::other("the folder above isn't held open")),
         };
-        if self.folders.len() >= MOST_FOLDERS - 1 {
-            self.folders.pop();
-        }
         self.folders.push(KnownFolder {
             path: String::from_str(alloc, path)?,
             folder,
@@ -126,6 +142,14 @@ impl Known {
     /// Forgets the folders in the room.
     pub(crate) fn forget_folders(&mut self) {
         self.folders.clear();
+    }
+}
+
+// Returns true if a path leads through this folder.
+fn is_above(folder: &str, path: &str) -> bool {
+    match path.strip_prefix(folder) {
+        Some(rest) => rest.starts_with('/'),
+        None => false,
     }
 }
 

@@ -3,12 +3,16 @@
 //! it is safe and ends. `real_trials` shows which system calls each one makes.
 #![tactic(auto)]
 
+mod aside;
 mod disk;
 mod emptying;
 mod folder;
 mod inside;
+mod kept;
 mod known;
 mod lock;
+mod look;
+mod mounts;
 mod paths;
 mod pipes;
 mod room;
@@ -18,6 +22,7 @@ pub use disk::{read_regular, write_beside};
 pub use emptying::put_aside;
 pub use folder::can_name_open_folders;
 pub use inside::{BESIDE, make_folder_inside, read_inside, write_inside};
+pub use kept::{Given, KEPT_FROM};
 pub use lock::{LockFile, Locked, lock_inside};
 pub use paths::path_in;
 pub use pipes::{

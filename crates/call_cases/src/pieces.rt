@@ -1,8 +1,7 @@
 // Streams that arrive in pieces.
 use delimited_framing::Next;
-use file_digests::digest_of;
 use json_framing::{Cutter, Framing};
-use plain_values::NoMemory;
+use plain_values::{NoMemory, digest_of};
 use std::alloc::Global;
 use wire_fields::LARGEST;
 

@@ -91,12 +91,12 @@ fn serves(command: &Command) -> bool {
         .any(|word| word.as_str() == SERVE)
 }
 
-fn put_call(alloc: Global, path: &str, bytes: &[u8], end: Io) -> Result<BerthCall, NoMemory>
-    ensures { IfOk result (λ c. c ≡ BerthCall.Put path.now bytes.now end) }
+fn put_call(alloc: Global, path: &str, content: &Blob, end: Io) -> Result<BerthCall, NoMemory>
+    ensures { IfOk result (λ c. c ≡ BerthCall.Put path.now content.now end) }
 {
     Ok(BerthCall::Put {
         path: Text::copy_of(alloc, path)?,
-        bytes: Blob::of(alloc, bytes.to_vec(alloc)?)?,
+        bytes: content.again()?,
         end,
     })
 }
@@ -243,12 +243,12 @@ impl<R: Wait + Clone + Drop> Berth for MemBerth<R> {
         Io::Done
     }
 
-    fn room_put(&mut self, path: &str, bytes: &[u8]) -> Io {
+    fn room_put(&mut self, path: &str, content: &Blob) -> Io {
         let on = Object::Put(self.number);
         let fails = self.calls.puts.fails_now(&self.script.fails, on)
-            || put_file(self.alloc, &self.rt, &self.room, path, bytes).is_err();
+            || put_file(&self.rt, &self.room, path, content).is_err();
         let end = if fails { Io::Failed } else { Io::Done };
-        let noted = note_end(&mut self.log, put_call(self.alloc, path, bytes, end));
+        let noted = note_end(&mut self.log, put_call(self.alloc, path, content, end));
         if fails || !noted {
             self.faults = self.faults.saturating_add(1);
             return Io::Failed;
@@ -284,12 +284,10 @@ impl<R: Wait + Clone + Drop> Berth for MemBerth<R> {
 }
 
 fn put_file<R: Wait>(
-    alloc: Global,
     rt: &R,
     room: &Mutex<Files>,
     path: &str,
-    bytes: &[u8],
+    content: &Blob,
 ) -> Result<(), NoMemory> {
-    room.lock(rt)
-        .put(path, Blob::of(alloc, bytes.to_vec(alloc)?)?)
+    room.lock(rt).put(path, content.again()?)
 }

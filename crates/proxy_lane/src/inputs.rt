@@ -14,7 +14,7 @@ use core_machine::Bench;
 use outside::{Berth, Place};
 use plain_values::{Blob, NoMemory, Text};
 use proxy_calls::look_made;
-use remote_messages::{NamedFile, Origin, WorkInput};
+use remote_messages::{NamedFile, Origin};
 use run_plan::{Maker, Speech};
 use std::alloc::Global;
 use std::sync::Wait;
@@ -56,7 +56,7 @@ impl<'a, B: Berth, P: Place, C: Rules, R: Wait> ProxyLane<'a, Bench<B, P, C>, B,
             (look_at origin.now bytes)) }
     {
         match origin {
-            Origin::Source(source) => source.content(),
+            Origin::Source(source) => source.again(),
             Origin::Made {
                 action: made,
                 output,
@@ -72,9 +72,8 @@ impl<'a, B: Berth, P: Place, C: Rules, R: Wait> ProxyLane<'a, Bench<B, P, C>, B,
     }
 }
 
-/// Computes the digests of the sources among the inputs of a request, unless they are known. If
-/// several lanes need a source at once, one computes its digest and the others wait. The executor
-/// receives no digests.
+/// Computes the digests of the inputs of a request, unless they are known. If several lanes need a
+/// content at once, one computes its digest and the others wait. The executor receives no digests.
 ///
 /// # Errors
 ///
@@ -83,15 +82,13 @@ pub(crate) fn know_digests<R: Wait>(
     rt: &R,
     alloc: Global,
     speech: Speech,
-    inputs: &[WorkInput],
+    inputs: &[NamedFile],
 ) -> Result<(), NoMemory> {
     if is_executor(speech) {
         return Ok(());
     }
     for input in inputs {
-        if let Origin::Source(source) = &input.origin {
-            source.know_digest(rt, alloc)?;
-        }
+        input.content.know_digest(rt, alloc)?;
     }
     Ok(())
 }

@@ -4,7 +4,6 @@ ghost use Rattle.proxy_calls.specs.declared.asking.Order.TheVariants as order;
 ghost use Rattle.proxy_laws.specs.Acts.{Writes, CancelActs};
 ghost use Rattle.proxy_laws.specs.Steps.{OwesWrote};
 ghost use Rattle.request_frames.specs.declared.frames.Due.TheVariants.{Frame};
-ghost use Rattle.request_frames.specs.Due.{HasSources};
 ghost use Rattle.run_values.specs.Settings.{HasGroup};
 ghost use Rattle.proxy_lane.specs.Held.{ByOpenLine, IsOpen};
 ghost use Rattle.proxy_lane.specs.Sites.{IsSite, IsDue, IsOrdered, StaysHere, SendsAt, ReportsWrote, Obeys};
@@ -110,7 +109,6 @@ impl<B: Berth> Hands<B> {
         work: &DueWork<'_>,
     ) -> Result<Written, NoMemory>
         requires opened { IsOpen self.old }
-        requires sources { HasSources work.now }
         requires group { HasGroup site.now.settings.now attempt }
         ensures { ByOpenLine (Writes (asks_of site.now attempt work.now)
             (due_of site.now attempt work.now) result) self.old self.new }
@@ -152,13 +150,11 @@ fn write<B: Berth, R: Wait>(
     attempt: Attempt,
     work: &DueWork<'_>,
 ) -> Result<Written, NoMemory>
-    requires sources { HasSources work.now }
     requires group { HasGroup site.now.settings.now attempt }
     ensures { Writes (asks_of site.now attempt work.now) (due_of site.now attempt work.now) result
         (B.told berth.old) (B.told berth.new) (B.Feed.told feed.old) (B.Feed.told feed.new) }
 {
-    let sources = work.action.inputs.as_slice();
-    know_digests(site.rt, site.alloc, site.speech, sources)?;
+    know_digests(site.rt, site.alloc, site.speech, work.inputs)?;
     let room = room_of(site.settings.kind_of(attempt), work.number);
     match send_frame(site.alloc, site.speech, room, work, site.settings.verbose)? {
         Due::TooLarge => Ok(Written::TooLarge),

@@ -1,8 +1,9 @@
 // The bare calls on files and folders, over files that print their calls.
+use crate::harms::Harmer;
 use crate::recorder::Recorder;
 use bare_calls::{
-    BESIDE, Room, make_folder_inside, put_aside, read_inside, read_regular, write_beside,
-    write_inside,
+    BESIDE, Given, KEPT_FROM, Room, make_folder_inside, put_aside, read_inside, read_regular,
+    write_beside, write_inside,
 };
 use plain_values::NoMemory;
 use std::alloc::Global;
@@ -14,6 +15,16 @@ use std::sync::atomic::AtomicU64;
 /// The folder for calls that aren't made in a room.
 const FOLDER: &str = "files";
 
+/// A file that a harmful process makes outside of all rooms.
+const ELSEWHERE: &str = "elsewhere";
+
+/// A room, and a process at work in it.
+#[derive(Drop)]
+pub struct Scene<F> {
+    pub room: Room,
+    pub harmer: Harmer<F>,
+}
+
 /// Makes the bare call that a line specifies, for example `write made/first 3`. The line gives its name, a
 /// path, and the number of the system call that is refused. Returns its result. The system calls have been
 /// printed.
@@ -21,10 +32,10 @@ const FOLDER: &str = "files";
 /// # Errors
 ///
 /// Returns `NoMemory` if memory runs out.
-pub fn play<R: Files + Print + Copy + Drop>(
+pub fn play<R: Files + Print + Copy + Drop + AllocGlobal>(
     rt: &R,
     alloc: Global,
-    room: &mut Room,
+    scene: &mut Scene<R::File>,
     line: &str,
 ) -> Result<String, NoMemory> {
     let (name, rest) = line.split_once(' ').unwrap_or((line, ""));
@@ -34,6 +45,7 @@ pub fn play<R: Files + Print + Copy + Drop>(
         Recorder::new(*rt, &made, refused.parse::<u64>().unwrap_or(0)),
         alloc,
     );
+    let room = &mut scene.room;
     let done = match name {
         "beside" => write_beside(&files, alloc, ".part", path, b"new"),
         "write" => write_inside(&files, alloc, FOLDER, path, BESIDE, b"new"),
@@ -42,10 +54,23 @@ pub fn play<R: Files + Print + Copy + Drop>(
         "clear" => room.clear(&files, ""),
         "part" => room.clear(&files, path),
         "make" => room.make(&files, path),
-        "put" => room.write(&files, path, b"new"),
+        "put" => room.write(&files, path, &small(b"new")),
+        "large" => put_large(&files, alloc, room, path)?,
+        "holds" => return holds(rt, alloc, room, path),
+        "harm" => harm(rt, alloc, scene, rest)?,
         "get" => return found(alloc, room.read(&files, path)),
-        "enter" => live(room, true),
-        "leave" => live(room, false),
+        "keep" => {
+            room.keep_always();
+            Ok(())
+        }
+        "enter" => {
+            room.enter();
+            Ok(())
+        }
+        "leave" => {
+            room.leave(&files);
+            Ok(())
+        }
         "source" => return found(alloc, read_regular(&files, path)),
         _ => return found(alloc, read_inside(&files, alloc, FOLDER, path)),
     };
@@ -53,9 +78,65 @@ pub fn play<R: Files + Print + Copy + Drop>(
     Ok(String::from_str(alloc, told)?)
 }
 
-fn live(room: &mut Room, is_lived_in: bool) -> io::Result<()> {
-    room.set_lived_in(is_lived_in);
-    Ok(())
+fn small(bytes: &[u8]) -> Given<'_> {
+    Given {
+        bytes,
+        digest: None,
+    }
+}
+
+// Puts the smallest content that is kept, always the same one.
+fn put_large<R: Files + AllocGlobal>(
+    rt: &R,
+    alloc: Global,
+    room: &mut Room,
+    path: &str,
+) -> Result<io::Result<()>, NoMemory> {
+    let bytes = large(alloc)?;
+    let given = Given {
+        bytes: &bytes,
+        digest: Some("the digest"),
+    };
+    Ok(room.write(rt, path, &given))
+}
+
+fn large(alloc: Global) -> Result<Vec<u8>, NoMemory> {
+    Ok(vec![in alloc; b'x'; KEPT_FROM]?)
+}
+
+// Tells whether the file at a path of the room has the bytes of the large content.
+fn holds<R: Files + AllocGlobal>(
+    rt: &R,
+    alloc: Global,
+    room: &Room,
+    path: &str,
+) -> Result<String, NoMemory> {
+    let path = path_of(alloc, room, path)?;
+    let wanted = large(alloc)?;
+    let told = match read_regular(rt, path.as_str()) {
+        Ok(Some(bytes)) if bytes.as_slice() == wanted.as_slice() => "the content",
+        Ok(Some(_)) => "other bytes",
+        Ok(None) => "nothing",
+        Err(_) => "failed",
+    };
+    Ok(String::from_str(alloc, told)?)
+}
+
+// Does to a file of the room what a harmful process might, for example `overwrite a/b`.
+fn harm<R: Files + AllocGlobal>(
+    rt: &R,
+    alloc: Global,
+    scene: &mut Scene<R::File>,
+    what: &str,
+) -> Result<io::Result<()>, NoMemory> {
+    let (way, path) = what.split_once(' ').unwrap_or((what, ""));
+    let path = path_of(alloc, &scene.room, path)?;
+    Ok(scene.harmer.harm(rt, way, path.as_str(), ELSEWHERE))
+}
+
+fn path_of(alloc: Global, room: &Room, path: &str) -> Result<String, NoMemory> {
+    let room = room.path()?;
+    Ok(format!(in alloc; "{room}/{path}")?)
 }
 
 fn found(alloc: Global, read: io::Result<Option<Vec<u8>>>) -> Result<String, NoMemory> {

@@ -5,6 +5,7 @@
 // a name that isn't UTF-8, folders that nobody may change, and a link to a folder of others. The third
 // shell looks if all that is gone, and if nothing else was touched.
 use crate::page::Page;
+use crate::puts::put;
 use outside::{Berth, Child, Command, Feed, Launch, Taken, Tap, Variable};
 use plain_values::{Items, NoMemory, Text};
 use std::alloc::Global;
@@ -29,17 +30,20 @@ const THIRD: &str = "test -z \"$(ls -A)\" && left=nothing || left=something; \
     echo \"$left is left, aside has $(stat -c %a ../../aside)\"; exec cat";
 
 pub fn play<P: Print, B: Berth>(page: &mut Page<'_, P>, alloc: Global, berth: &mut B) {
-    page.io("put letter", &berth.room_put("letter", b"inside"));
+    page.io("put letter", &put(alloc, berth, "letter", b"inside"));
     if let Some((mut feed, mut tap, mut child)) = shell(page, alloc, berth, 0, FIRST) {
-        talk(page, berth, &mut feed, &mut tap, &mut child);
+        talk(page, alloc, berth, &mut feed, &mut tap, &mut child);
     }
     page.io("clear", &berth.room_clear(""));
-    page.io("put tool", &berth.room_put("tool", b"echo it runs\n"));
-    page.io("put shelf/file", &berth.room_put("shelf/file", b"inside"));
-    page.io("put rack/file", &berth.room_put("rack/file", b"inside"));
+    page.io("put tool", &put(alloc, berth, "tool", b"echo it runs\n"));
+    page.io(
+        "put shelf/file",
+        &put(alloc, berth, "shelf/file", b"inside"),
+    );
+    page.io("put rack/file", &put(alloc, berth, "rack/file", b"inside"));
     if let Some((_feed, mut tap, mut child)) = shell(page, alloc, berth, 1, SECOND) {
         take_all(page, alloc, &mut tap, 3);
-        page.io("put rack/x", &berth.room_put("rack/x", b"inside"));
+        page.io("put rack/x", &put(alloc, berth, "rack/x", b"inside"));
         page.read("rack/x", berth.room_get("rack/x"));
         page.io("clear", &berth.room_clear(""));
         berth.end(1, &mut child);
@@ -128,6 +132,7 @@ fn variable(alloc: Global, name: &str, value: &str) -> Result<Variable, NoMemory
 
 fn talk<P: Print, B: Berth>(
     page: &mut Page<'_, P>,
+    alloc: Global,
     berth: &mut B,
     feed: &mut B::Feed,
     tap: &mut B::Tap,
@@ -138,7 +143,7 @@ fn talk<P: Print, B: Berth>(
     page.read("out, a link", berth.room_get("out"));
     page.read("way/file, behind a link", berth.room_get("way/file"));
     page.io("clear way/file", &berth.room_clear("way/file"));
-    page.io("put way/x", &berth.room_put("way/x", b"inside"));
+    page.io("put way/x", &put(alloc, berth, "way/x", b"inside"));
     page.read("way/x", berth.room_get("way/x"));
     page.read("fifo", berth.room_get("fifo"));
     page.io("feed", &feed.write(b"moved\n"));

@@ -1,6 +1,6 @@
 // The files of the system. Each call on them is printed, and one call is refused on request.
 use std::alloc::Allocator;
-use std::fs::{Metadata, OpenFile, OpenOptions, Permissions};
+use std::fs::{FileTimes, Metadata, OpenFile, OpenOptions, Permissions};
 use std::io::{self, ErrorKind, Print, Read, Seek, SeekFrom, Write};
 use std::path::PathBuf;
 use std::rt::Files;
@@ -184,5 +184,10 @@ impl<'a, R: Print, F: OpenFile> OpenFile for Recorded<'a, R, F> {
 
     fn sync_data(&self) -> io::Result<()> {
         self.file.sync_data()
+    }
+
+    fn set_times(&self, times: FileTimes) -> io::Result<()> {
+        self.of.call("set times of", "it")?;
+        self.file.set_times(times)
     }
 }

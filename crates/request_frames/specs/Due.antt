@@ -5,11 +5,7 @@ use Rattle.remote_messages.specs.declared.job.Job.{Job}
 use Rattle.remote_branch.specs.Jobs.{job_for}
 use Rattle.sandbox_rooms.specs.declared.room.Room.{Room}
 use Rattle.request_frames.specs.declared.requests.DueWork.{DueWork}
-use Rattle.request_frames.specs.Requests.{AreFrom, request_for}
-
--- each file of a source has the source's bytes
-abbrev pub HasSources : DueWork → Type 0
-HasSources work = AreFrom work.action.now.inputs work.inputs.now
+use Rattle.request_frames.specs.Requests.{request_for}
 
 abbrev pub request_due : DueWork → Bool → Room → WorkRequest
 request_due work verbose room =

@@ -1,5 +1,5 @@
 -- The requests that a worker is written for an order.
-use Rattle.std.specs.Prelude.{◌≡◌, ℕ, ℤ, List, [], map, slice_get, Some, Bool, true, false, pos, if◌then◌else◌}
+use Rattle.std.specs.Prelude.{◌≡◌, ℕ, ℤ, List, [], map, Bool, true, false, pos, if◌then◌else◌}
 use Rattle.run_plan.specs.declared.plan.Kind.{Kind}
 use Rattle.run_plan.specs.declared.plan.Kind.TheVariants as kind
 use Rattle.wire_messages.specs.declared.input.Input.{Input}
@@ -8,11 +8,10 @@ use Rattle.remote_messages.specs.declared.file.NamedFile.{NamedFile}
 use Rattle.remote_messages.specs.declared.work.Origin.{Origin}
 use Rattle.remote_messages.specs.declared.work.Origin.TheVariants as origin
 use Rattle.remote_messages.specs.declared.work.WorkAction.{WorkAction}
-use Rattle.remote_messages.specs.declared.work.WorkInput.{WorkInput}
 use Rattle.sandbox_rooms.specs.declared.room.Room.{Room}
 use Rattle.sandbox_rooms.specs.declared.room.Room.TheVariants as room
 use Rattle.sandbox_rooms.specs.Rooms.{part_of}
-use Rattle.file_digests.specs.Digests.{digest_text}
+use Rattle.plain_values.specs.Digests.{digest_text}
 
 -- The room of a request with this number, by the kind of its line. The executor has rooms of its
 -- own.
@@ -32,11 +31,6 @@ sandbox_for (room.Part number) = part_of number
 abbrev pub IsFrom : Origin → List ℕ → Type 0
 IsFrom (origin.Source bytes) content = content ≡ bytes
 IsFrom (origin.Made a o) content = Unit {0}
-
--- the file at an input's place has the bytes that the input is from
-abbrev pub AreFrom : List WorkInput → List NamedFile → Type 0
-AreFrom inputs files = (k : ℕ) (x : WorkInput) (f : NamedFile)
-    → slice_get inputs k ≡ Some x → slice_get files k ≡ Some f → IsFrom x.origin f.content
 
 -- an input with the digest of its own bytes
 abbrev pub input_of : NamedFile → Input

@@ -1,7 +1,7 @@
 ghost use Rattle.std.specs.Prelude.{◌≡◌, IfOk};
 ghost use Rattle.remote_branch.specs.Jobs.{cancel_for};
 ghost use Rattle.request_frames.specs.Requests.{cancelling};
-ghost use Rattle.request_frames.specs.Due.{HasSources, request_due, job_due};
+ghost use Rattle.request_frames.specs.Due.{request_due, job_due};
 ghost use Rattle.request_frames.specs.Frames.{send_due, cancel_due, framed_request, request_line, framed_job, due_job};
 
 use crate::requests::{DueWork, cancelling, request_of};
@@ -36,7 +36,6 @@ pub fn send_frame(
     work: &DueWork<'_>,
     verbose: bool,
 ) -> Result<Due, NoMemory>
-    requires { HasSources work.now }
     ensures { IfOk result (λ due.
         due ≡ send_due speech (request_due work.now verbose room) (job_due work.now)) }
 {
@@ -74,7 +73,6 @@ fn request_frame(
     work: &DueWork<'_>,
     verbose: bool,
 ) -> Result<Items<u8>, NoMemory>
-    requires { HasSources work.now }
     ensures { IfOk result (λ frame. frame ≡ framed_request (request_due work.now verbose room)) }
 {
     let request = request_of(alloc, room, work, verbose)?;
@@ -87,7 +85,6 @@ fn json_request(
     work: &DueWork<'_>,
     verbose: bool,
 ) -> Result<Items<u8>, NoMemory>
-    requires { HasSources work.now }
     ensures { IfOk result (λ line. line ≡ request_line (request_due work.now verbose room)) }
 {
     let request = request_of(alloc, room, work, verbose)?;

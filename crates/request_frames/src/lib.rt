@@ -5,4 +5,4 @@ mod frames;
 mod requests;
 
 pub use frames::{Due, cancel_frame, send_frame};
-pub use requests::{DueWork, digest_text, room_of};
+pub use requests::{DueWork, room_of};

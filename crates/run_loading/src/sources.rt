@@ -13,7 +13,6 @@ ghost use Rattle.run_loading.specs.Wanted.{is_source, paths_of_action, source_fi
 use crate::RunFault;
 use crate::reading::read_found;
 use action_list::{ListAction, Producers};
-use file_digests::Source;
 use indexmap::IndexMap;
 use outside::Floor;
 use plain_values::{Blob, NoMemory, Text};
@@ -22,7 +21,7 @@ use std::alloc::Global;
 /// The files that were found, by path, in the order in which they were read.
 #[derive(Drop)]
 pub struct Sources {
-    files: IndexMap<String, Source>,
+    files: IndexMap<String, Blob>,
 }
 
 /// Reads the files that the actions need, up to the first path that isn't found.
@@ -55,14 +54,14 @@ impl Sources {
         }
     }
 
-    fn get(&self, path: &str) -> Option<&Source>
+    fn get(&self, path: &str) -> Option<&Blob>
         ensures { option_copied result ≡ file_at (held self.now) path.now }
     {
         self.files.get(path)
     }
 
     /// Returns the contents of a file that was found.
-    pub fn bytes_at(&self, path: &str) -> &Source
+    pub fn bytes_at(&self, path: &str) -> &Blob
         requires { IsSome (file_at (held self.now) path.now) }
         ensures { file_at (held self.now) path.now ≡ Some result.now }
     {
@@ -73,8 +72,7 @@ impl Sources {
         requires { file_at (held self.old) path.now ≡ None }
         ensures { OnOk result (held self.new ≡ held self.old ++ source_file path.now bytes ∷ []) }
     {
-        let source = Source::of(alloc, bytes)?;
-        self.files.insert(String::from_str(alloc, path)?, source)?;
+        self.files.insert(String::from_str(alloc, path)?, bytes)?;
         Ok(())
     }
 

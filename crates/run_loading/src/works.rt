@@ -117,7 +117,7 @@ fn push_source(
     if let Origin::Source(source) = &input.origin {
         files.push(SourceFile {
             path: Text::copy_of(alloc, input.path.as_str())?,
-            bytes: source.content()?,
+            bytes: source.again()?,
         })?;
     }
     Ok(())

@@ -17,6 +17,7 @@
 //! | `delay` | prints the replies, call after call, of a core whose worker's branch waits for two Ticks |
 //! | `reads`, `writes` | prints the reads of the floor, or the writes to the places, of the last run |
 //! | `room`, `given` | prints the calls on its first berth, or the bytes that its first line was given |
+//! | `digests` | prints the contents that were put into its first berth's room and found there, and if the digest of each is known |
 //!
 //! A beat is `hear=N`, `leave=PATH`, `leave=PATH,TEXT`, `give=BYTES`, `choose=BYTES,BYTES`, `raise=N`,
 //! `await=N` or `die`. A child without beats carries out each request at once.
@@ -106,7 +107,7 @@ fn play<R: Threads + Wait + Clock + Copy + Drop + Send + Sync>(
         "choose" => choose(rt, alloc, rest, case, last),
         "meet" => meet(rt, alloc, rest, case),
         "delay" => delayed::tell_delay(alloc),
-        "reads" | "writes" | "room" | "given" => tell_last(alloc, last, kind),
+        "reads" | "writes" | "room" | "digests" | "given" => tell_last(alloc, last, kind),
         _ => case.note(alloc, line),
     }
 }
@@ -214,6 +215,7 @@ fn tell_last<R: Wait + Clone + Drop>(
         (Some(ended), "reads") => played::reads(alloc, ended),
         (Some(ended), "writes") => played::writes(alloc, ended),
         (Some(ended), "room") => played::room(alloc, ended),
+        (Some(ended), "digests") => played::digests(alloc, ended),
         (Some(ended), _) => played::given(alloc, ended),
     }
 }

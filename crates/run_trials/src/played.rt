@@ -1,6 +1,6 @@
 // One run, and the records of its objects.
 use crate::case::Case;
-use outside::{BerthCall, Command, PlaceWrite};
+use outside::{BerthCall, Command, PlaceWrite, Read};
 use outside_mem::{FailAt, MemFloor, MemSink, Script};
 use plain_values::{NoMemory, Text};
 use std::alloc::Global;
@@ -157,12 +157,44 @@ pub fn room<R: Wait + Clone + Drop>(
     ended: &Ended<MemFloor<R>>,
 ) -> Result<String, NoMemory> {
     let mut told = String::new(alloc);
-    let calls = match ended.laid.berths.first() {
+    for call in calls(ended) {
+        push_line(called(alloc, call)?.as_str(), &mut told)?;
+    }
+    Ok(told)
+}
+
+fn calls<R: Wait + Clone + Drop>(ended: &Ended<MemFloor<R>>) -> &[BerthCall] {
+    match ended.laid.berths.first() {
         Some(berth) => berth.log().unwrap_or(&[]),
         None => &[],
-    };
-    for call in calls {
-        push_line(called(alloc, call)?.as_str(), &mut told)?;
+    }
+}
+
+/// Returns the contents that were put into the first berth's room and found there, one a line, and if the digest
+/// of each is known. It is known to all owners of a content if one has computed it.
+pub fn digests<R: Wait + Clone + Drop>(
+    alloc: Global,
+    ended: &Ended<MemFloor<R>>,
+) -> Result<String, NoMemory> {
+    let mut told = String::new(alloc);
+    for call in calls(ended) {
+        let content = match call {
+            BerthCall::Put { bytes, .. } => Some(bytes),
+            BerthCall::Get {
+                answer: Read::Found(bytes),
+                ..
+            } => Some(bytes),
+            _ => None,
+        };
+        if let Some(content) = content {
+            let known = if content.knows_digest() {
+                "known"
+            } else {
+                "unknown"
+            };
+            let line = format!(in alloc; "{} {known}", called(alloc, call)?.as_str())?;
+            push_line(line.as_str(), &mut told)?;
+        }
     }
     Ok(told)
 }

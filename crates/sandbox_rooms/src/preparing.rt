@@ -179,5 +179,5 @@ fn put_one<B: Berth>(
         (B.told berth.old) (B.told berth.new) }
 {
     let path = path_in(alloc, room, input.path.as_str())?;
-    Ok(berth.room_put(path.as_str(), input.content.bytes()))
+    Ok(berth.room_put(path.as_str(), &input.content))
 }

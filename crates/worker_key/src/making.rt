@@ -2,8 +2,7 @@ ghost use Rattle.std.specs.Prelude.{◌≡◌, IfOk, map};
 ghost use Rattle.worker_key.specs.Keys.{key_of, named_tool};
 
 use crate::{KeyParts, Named, Tool, WorkerKey};
-use file_digests::digest_of;
-use plain_values::{Items, NoMemory, Text, texts_again};
+use plain_values::{Items, NoMemory, Text, digest_of, texts_again};
 use std::alloc::Global;
 
 impl WorkerKey {

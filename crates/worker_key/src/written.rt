@@ -2,11 +2,10 @@ ghost use Rattle.std.specs.Prelude.{◌≡◌, ◌++◌, ◌^◌, ◌<◌, ◌�
 ghost use Rattle.std.specs.List.{flat_map};
 ghost use Rattle.std.specs.Fmt.{decimal};
 ghost use Rattle.worker_key.specs.Keys.{AreOnlyOf, AreShort, canonical, counted, listed, pairs, letters};
-ghost use Rattle.file_digests.specs.Digests.{digest_text};
+ghost use Rattle.plain_values.specs.Digests.{digest_text};
 
 use crate::{Mode, Named, WorkerKey};
-use file_digests::digest_of;
-use plain_values::{NoMemory, Text};
+use plain_values::{NoMemory, Text, digest_of};
 use std::alloc::Global;
 
 impl WorkerKey {

@@ -9,5 +9,5 @@ pub returns : goal.returns
 returns g c =
     let told = g.B.Berth.told in
     let path = c.as_str-2.ensures ∙ c.in_ok-path.ensures ∙ ap (in_room c.args.room) c.as_str.ensures in
-    let same : Put c.as_str-2.result.now c.bytes.result.now ≡ put_ask c.args.room c.args.input.now = λ i. Put (path i) (c.bytes.ensures i) in
-    run_io (put_ask c.args.room c.args.input.now) (call.Put c.as_str-2.result.now c.bytes.result.now c.room_put.result) c.room_put.result (told c.args.berth.now) (told c.room_put.new.self) same refl c.room_put.ensures.log c.room_put.ensures.count c.room_put.ensures.number
+    let same : Put c.as_str-2.result.now c.args.input.now.content ≡ put_ask c.args.room c.args.input.now = λ i. Put (path i) c.args.input.now.content in
+    run_io (put_ask c.args.room c.args.input.now) (call.Put c.as_str-2.result.now c.args.input.now.content c.room_put.result) c.room_put.result (told c.args.berth.now) (told c.room_put.new.self) same refl c.room_put.ensures.log c.room_put.ensures.count c.room_put.ensures.number

@@ -7,7 +7,6 @@ use Rattle.remote_messages.specs.declared.file.NamedFile.{NamedFile}
 use Rattle.run_values.specs.Settings.{HasGroup}
 use Rattle.proxy_words.specs.Deeds.{AreInputs, looks_of, send_asks, due_for}
 use Rattle.proxy_words.specs.Told.{AreTold}
-use Rattle.proxy_words.proofs.Inputs.{are_from}
 use Rattle.proxy_laws.specs.Acts.{SendActs, Writes}
 use Rattle.proxy_laws.specs.Lanes.{LaneObjects}
 use Rattle.proxy_laws.proofs.Acting.{send_acts, no_inputs}
@@ -20,12 +19,6 @@ use Rattle.proxy_lane.proofs.sending.ProxyLane+Bench+B+P+C+B+R.act_send.Goals as
 pub send-requires-clause-opened : goal.send-requires-clause-opened
 send-requires-clause-opened g c =
     subst (λ (h : LaneObjects). IsOpen h) (sym c.in_ok-inputs.ensures.hands) c.requires.opened
-
-pub send-requires-clause-sources : goal.send-requires-clause-sources
-send-requires-clause-sources g c =
-    are_from c.args.request.now.work.now.inputs c.as_slice.result.now
-    (subst (λ (fs : List NamedFile). AreInputs c.args.request.now.work.now.inputs fs) (sym c.as_slice.ensures.value)
-    c.in_ok-inputs.ensures.inputs)
 
 pub send-requires-clause-group : goal.send-requires-clause-group
 send-requires-clause-group g c =

@@ -1,10 +1,10 @@
 ghost use Rattle.std.specs.Prelude.{◌≡◌, ◌%◌, ◌<◌, IfOk, IfSome};
 ghost use Rattle.counted_slot.specs.Counting.{readers, IsTurn};
-ghost use Rattle.file_digests.specs.Digests.{digest_text};
+ghost use Rattle.plain_values.specs.Digests.{digest_text};
 
 use crate::digest::Digits;
+use crate::{Items, NoMemory};
 use counted_slot::{Claim, Counted, FREE, MOST_READERS, ONE_READER, PRESENT, TAKEN};
-use plain_values::{Blob, Items, NoMemory};
 use std::alloc::Global;
 
 /// The number of times that a reader tries to be counted. Each try that fails is one that another reader won.
@@ -18,7 +18,7 @@ pub(crate) struct DigitSlot {
 
 impl DigitSlot {
     /// Returns empty room for the digits of these contents.
-    pub(crate) fn of(content: &Blob) -> DigitSlot
+    pub(crate) fn of(content: &Items<u8>) -> DigitSlot
         ensures { result.slot ≡ content.now }
     {
         DigitSlot {

@@ -1,5 +1,4 @@
-use crate::Source;
-use plain_values::Blob;
+use crate::Blob;
 use std::alloc::Global;
 use std::sync::Wait;
 use std::test::Fail;
@@ -9,29 +8,24 @@ use std::thread::Threads;
 /// The digest of `abc` in the standard of SHA-256.
 const ABC: &[u8] = b"ba7816bf8f01cfea414140de5dae2223b00361a396177a9cb410ff61f20015ad";
 
-fn source(alloc: Global) -> Result<Source, Fail> {
+fn content(alloc: Global) -> Result<Blob, Fail> {
     let bytes = b"abc".to_vec(alloc)?;
-    Ok(Source::of(alloc, Blob::of(alloc, bytes)?)?)
+    Ok(Blob::of(alloc, bytes)?)
 }
 
-fn has_digits(alloc: Global, source: &Source) -> bool {
-    match source.digits(alloc) {
+fn has_digits(alloc: Global, content: &Blob) -> bool {
+    match content.digits(alloc) {
         Ok(digits) => digits.as_slice() == ABC,
         Err(_) => false,
     }
 }
 
 // Computes the digest, as a lane does, and returns true if the digits are right.
-fn comes_to_know<R: Wait>(rt: &R, alloc: Global, source: &Source) -> bool {
-    source.know_digest(rt, alloc).is_ok() && has_digits(alloc, source)
+fn comes_to_know<R: Wait>(rt: &R, alloc: Global, content: &Blob) -> bool {
+    content.know_digest(rt, alloc).is_ok() && has_digits(alloc, content)
 }
 
-fn both_know<R: Threads + Wait + Sync>(
-    rt: &R,
-    alloc: Global,
-    one: &Source,
-    other: &Source,
-) -> bool {
+fn both_know<R: Threads + Wait + Sync>(rt: &R, alloc: Global, one: &Blob, other: &Blob) -> bool {
     let (here, there) = thread::join(
         rt,
         || comes_to_know(rt, alloc, one),
@@ -43,7 +37,7 @@ fn both_know<R: Threads + Wait + Sync>(
 #[test]
 fn two_copies_have_the_digits(rt: HostRuntime) -> Result<(), Fail> {
     let alloc = rt.alloc();
-    let one = source(alloc)?;
+    let one = content(alloc)?;
     let other = one.again()?;
     assert!(rt; has_digits(alloc, &one));
     assert!(rt; comes_to_know(&rt, alloc, &one));
@@ -56,7 +50,7 @@ fn two_copies_have_the_digits(rt: HostRuntime) -> Result<(), Fail> {
 #[test]
 fn lanes_that_come_at_once_have_the_digits(rt: HostRuntime) -> Result<(), Fail> {
     let alloc = rt.alloc();
-    let one = source(alloc)?;
+    let one = content(alloc)?;
     let other = one.again()?;
     assert!(rt; both_know(&rt, alloc, &one, &other));
     Ok(())

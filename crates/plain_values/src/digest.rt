@@ -1,9 +1,9 @@
 ghost use Rattle.std.specs.Prelude.{◌≡◌, IfOk};
-ghost use Rattle.file_digests.specs.Digests.{digest_text};
+ghost use Rattle.plain_values.specs.Digests.{digest_text};
 
+use crate::{Items, NoMemory, Text};
 use counted_slot::Fits;
 use hex::encode;
-use plain_values::{Blob, Items, NoMemory, Text};
 use sha2::{Digest, Sha256};
 use std::alloc::Global;
 
@@ -14,7 +14,7 @@ pub(crate) struct Digits {
 }
 
 impl Fits for Digits {
-    type Tag = Blob;
+    type Tag = Items<u8>;
 
     ghost fits = { λ content d. d.digits ≡ digest_text content };
 }

@@ -1,6 +1,0 @@
-use Rattle.std.proofs.Common.{◌≡◌, map, take}
-use Rattle.request_frames.specs.Requests.{input_of}
-use Rattle.request_frames.proofs.requests.inputs_of.Given as goal
-
-abbrev pub invariant-loop-at : goal.invariant-loop-at
-invariant-loop-at l = l.inputs.items ≡ map input_of (take l.at l.files)
