@@ -79,10 +79,13 @@ pub fn play<R: Files + Print + Copy + Drop + AllocGlobal>(
 }
 
 fn small(bytes: &[u8]) -> Given<'_> {
-    Given {
-        bytes,
-        digest: None,
-    }
+    let digest = None;
+    Given { bytes, digest }
+}
+
+fn named<'a>(bytes: &'a [u8], digest: &'a str) -> Given<'a> {
+    let digest = Some(digest);
+    Given { bytes, digest }
 }
 
 // Puts the smallest content that is kept, always the same one.
@@ -93,10 +96,7 @@ fn put_large<R: Files + AllocGlobal>(
     path: &str,
 ) -> Result<io::Result<()>, NoMemory> {
     let bytes = large(alloc)?;
-    let given = Given {
-        bytes: &bytes,
-        digest: Some("the digest"),
-    };
+    let given = named(bytes.as_slice(), "the digest");
     Ok(room.write(rt, path, &given))
 }
 
