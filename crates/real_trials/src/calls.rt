@@ -113,13 +113,21 @@ fn holds<R: Files + AllocGlobal>(
 ) -> Result<String, NoMemory> {
     let path = path_of(alloc, room, path)?;
     let wanted = large(alloc)?;
-    let told = match read_regular(rt, path.as_str()) {
-        Ok(Some(bytes)) if bytes.as_slice() == wanted.as_slice() => "the content",
-        Ok(Some(_)) => "other bytes",
+    let read = read_regular(rt, path.as_str());
+    let told = match &read {
+        Ok(Some(bytes)) => compared(bytes.as_slice(), wanted.as_slice()),
         Ok(None) => "nothing",
         Err(_) => "failed",
     };
     Ok(String::from_str(alloc, told)?)
+}
+
+fn compared(bytes: &[u8], wanted: &[u8]) -> &'static str {
+    if bytes == wanted {
+        "the content"
+    } else {
+        "other bytes"
+    }
 }
 
 // Does to a file of the room what a harmful process might, for example `overwrite a/b`.
