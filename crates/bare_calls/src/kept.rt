@@ -32,6 +32,20 @@ pub struct Given<'a> {
     pub digest: Option<&'a str>,
 }
 
+impl<'a> Given<'a> {
+    /// Returns a content with its digest.
+    pub fn named(bytes: &'a [u8], digest: &'a str) -> Given<'a> {
+        let digest = Some(digest);
+        Given { bytes, digest }
+    }
+
+    /// Returns a content whose digest the room isn't told. Its file isn't kept.
+    pub fn unnamed(bytes: &'a [u8]) -> Given<'a> {
+        let digest = None;
+        Given { bytes, digest }
+    }
+}
+
 /// Whether files are kept.
 #[derive(Clone, Copy, PartialEq, Eq)]
 pub(crate) enum Keeping {

@@ -54,7 +54,7 @@ pub fn play<R: Files + Print + Copy + Drop + AllocGlobal>(
         "clear" => room.clear(&files, ""),
         "part" => room.clear(&files, path),
         "make" => room.make(&files, path),
-        "put" => room.write(&files, path, &small(b"new")),
+        "put" => room.write(&files, path, &Given::unnamed(b"new")),
         "large" => put_large(&files, alloc, room, path)?,
         "holds" => return holds(rt, alloc, room, path),
         "harm" => harm(rt, alloc, scene, rest)?,
@@ -78,16 +78,6 @@ pub fn play<R: Files + Print + Copy + Drop + AllocGlobal>(
     Ok(String::from_str(alloc, told)?)
 }
 
-fn small(bytes: &[u8]) -> Given<'_> {
-    let digest = None;
-    Given { bytes, digest }
-}
-
-fn named<'a>(bytes: &'a [u8], digest: &'a str) -> Given<'a> {
-    let digest = Some(digest);
-    Given { bytes, digest }
-}
-
 // Puts the smallest content that is kept, always the same one.
 fn put_large<R: Files + AllocGlobal>(
     rt: &R,
@@ -96,7 +86,7 @@ fn put_large<R: Files + AllocGlobal>(
     path: &str,
 ) -> Result<io::Result<()>, NoMemory> {
     let bytes = large(alloc)?;
-    let given = named(bytes.as_slice(), "the digest");
+    let given = Given::named(bytes.as_slice(), "the digest");
     Ok(room.write(rt, path, &given))
 }
 
