@@ -2,6 +2,8 @@
 #![tactic(auto)]
 
 mod asked;
+mod opens;
+mod own;
 mod texts;
 
 ghost use Rattle.std.specs.Prelude.{◌≡◌, IfOk};
@@ -11,11 +13,13 @@ ghost use Rattle.journal_replay.specs.Streams.{Streamed};
 ghost use Rattle.journal_replay.specs.Verdicts.{Judges};
 ghost use Rattle.journal_replay.specs.declared.verdict.Verdict.{Verdict};
 
-use asked::Asked;
+pub use asked::Asked;
 pub use journal_replay::Verdict;
 use journal_replay::{audit_with, check_stream_with};
+pub use opens::{Opened, Opens};
 use outside::{Sink, Tap};
 use plain_values::NoMemory;
+use spawn_core::EarliestFirst;
 use std::alloc::Global;
 pub use texts::{audit_again, legal_texts_are_judged};
 
@@ -29,7 +33,7 @@ pub fn audit(alloc: Global, bytes: &[u8]) -> Result<Verdict, NoMemory>
     ensures answer { IfOk result (Judges Legal bytes.now) }
     ensures only { IfOk result (λ v. (w : Verdict) → Judges Legal bytes.now w → w ≡ v) }
 {
-    audit_with::<Asked>(alloc, bytes)
+    audit_with::<Asked<EarliestFirst>>(alloc, bytes)
 }
 
 /// Reads an input to its end, or until it is too long, and writes a line with the verdict. If it begins with a report, the
@@ -42,5 +46,5 @@ pub fn check_stream<T: Tap, O: Sink>(alloc: Global, input: &mut T, out: &mut O) 
     ensures tap { Counts (T.told input.old).faults (T.told input.new).faults (result ≡ 5) }
     ensures sink { Counts (O.told out.old).faults (O.told out.new).faults (result ≡ 6) }
 {
-    check_stream_with::<Asked, T, O>(alloc, input, out)
+    check_stream_with::<Asked<EarliestFirst>, T, O>(alloc, input, out)
 }

@@ -17,6 +17,7 @@ use journal_replay::Verdict;
 use journal_replay::laws::texts_are_legal;
 use journal_text::journal_text;
 use plain_values::NoMemory;
+use spawn_core::EarliestFirst;
 use std::alloc::Global;
 
 /// The written text of a legal journal of a sound plan is judged legal, unless it is too long.
@@ -28,7 +29,7 @@ pub fn legal_texts_are_judged()
     own_berths_are_lawful();
     branches_win_once();
     answers_are_paired();
-    texts_are_legal::<Asked>();
+    texts_are_legal::<Asked<EarliestFirst>>();
 }
 
 /// Returns the verdict on the text of a legal journal of a sound plan: Yes, unless it is too long.

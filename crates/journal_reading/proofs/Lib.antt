@@ -4,3 +4,5 @@ pub mod Passing
 pub mod Scalars
 pub mod Names
 pub mod Signs
+pub mod Ticks
+pub mod Whole

@@ -1,10 +1,11 @@
-//! Reads the lines of a journal's text. Each spells a plan or an entry, or nothing.
+//! Reads the lines of a journal's text. Each spells a plan, a plan on its berths or an entry, or nothing.
 #![tactic(auto)]
 
 mod answers;
 mod calls;
 mod misread;
 mod numbers;
+mod placed;
 mod plans;
 mod reading;
 mod replies;
@@ -12,4 +13,4 @@ mod values;
 mod words;
 
 pub use misread::Misread;
-pub use reading::{read_entry, read_plan};
+pub use reading::{read_entry, read_placed, read_plan};

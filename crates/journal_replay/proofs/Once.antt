@@ -1,29 +1,27 @@
 -- At most one verdict is due.
-use Rattle.std.proofs.Common.{◌≡◌, ℕ, zero, suc, ◌<◌, ◌≤◌, ltb, Bool, true, false, List, [], ◌∷◌, ◌++◌, length, reverse, take, Some, None, Result, Ok, Err, refl, sym, ap, subst, ◌∙◌, arith, append_assoc}
+use Rattle.std.proofs.Common.{◌≡◌, ℕ, zero, suc, ◌<◌, ◌≤◌, ltb, Bool, true, false, List, [], ◌∷◌, ◌++◌, length, reverse, take, Option, Some, None, Result, Ok, Err, refl, sym, ap, subst, ◌∙◌, arith, append_assoc}
 use Rattle.std.specs.Prelude.{IfOk, slice_get}
 use Rattle.std.proofs.lemmas.Bool.{ltb-false, ltb-true}
 use Rattle.std.proofs.lemmas.List.{reverse-append}
-use Rattle.run_plan.specs.declared.plan.Plan.{Plan}
-use Rattle.run_plan.specs.Sound.{Sound}
 use Rattle.exec_journal.specs.Entry.{Entry}
-use Rattle.journal_text.specs.Lines.{entry_of, lines_of, plan_of}
+use Rattle.journal_text.specs.Lines.{entry_of, lines_of}
 use Rattle.journal_text.specs.Options.{each}
-use Rattle.journal_replay.specs.Legality.{Legality}
-use Rattle.journal_replay.specs.Beyond.{entry_beyond}
+use Rattle.journal_replay.specs.Legality.{Rulebook}
+use Rattle.journal_replay.specs.Beyond.{entry_beyond_in}
 use Rattle.journal_replay.specs.Spelled.{Spells, bad_entry, bad_line}
-use Rattle.journal_replay.specs.Verdicts.{FirstIllegal, HasFault, IsBadPlan, IsYes, Judges, Says}
+use Rattle.journal_replay.specs.Verdicts.{FirstIllegal, HasFault, IsBadPlan, IsYes, JudgesBy, Says}
 use Rattle.journal_replay.specs.declared.verdict.Verdict.{Verdict}
 use Rattle.journal_replay.specs.declared.verdict.Verdict.TheVariants as verdict
 use Rattle.journal_replay.proofs.Steps.{first_each}
 
 -- ---- what lines spell
 
-pub spells_once : (ls : List (List ℕ)) (p q : Plan) (j k : List Entry) → Spells ls p j → Spells ls q k → (p ≡ q) × (j ≡ k)
-spells_once ls p q j k s t =
+pub spells_once : {B : Type 0} (spelled : List ℕ → Option B) (ls : List (List ℕ)) (p q : B) (j k : List Entry) → Spells spelled ls p j → Spells spelled ls q k → (p ≡ q) × (j ≡ k)
+spells_once spelled ls p q j k s t =
     let same : s.top ∷ s.rest ≡ t.top ∷ t.rest = sym s.lines_are ∙ t.lines_are in
     let top : s.top ≡ t.top = cc in
     let rest : s.rest ≡ t.rest = cc in
-    let plans : Some p ≡ Some q = sym s.plan ∙ ap plan_of top ∙ t.plan in
+    let plans : Some p ≡ Some q = sym s.basis ∙ ap spelled top ∙ t.basis in
     let journals : Some j ≡ Some k = sym s.entries ∙ ap (each entry_of) rest ∙ t.entries in
     (cc, cc)
 
@@ -33,30 +31,30 @@ no_bad_entry n (l ∷ ls) j h =
     let (v, zs, p, q, r) = first_each entry_of l ls j h in
     rw p (no_bad_entry (suc n) ls zs q)
 
-pub not_bad : (ls : List (List ℕ)) (p : Plan) (j : List Entry) (k : ℕ) → Spells ls p j → bad_line ls ≡ Some k → ⊥
-not_bad ls p j k s bad =
-    let none : bad_line (s.top ∷ s.rest) ≡ None = rw s.plan (no_bad_entry 2 s.rest j s.entries) in
-    let both : None ≡ Some k = sym none ∙ ap bad_line (sym s.lines_are) ∙ bad in
+pub not_bad : {B : Type 0} (spelled : List ℕ → Option B) (ls : List (List ℕ)) (p : B) (j : List Entry) (k : ℕ) → Spells spelled ls p j → bad_line spelled ls ≡ Some k → ⊥
+not_bad spelled ls p j k s bad =
+    let none : bad_line spelled (s.top ∷ s.rest) ≡ None = rw s.basis (no_bad_entry 2 s.rest j s.entries) in
+    let both : None ≡ Some k = sym none ∙ ap (bad_line spelled) (sym s.lines_are) ∙ bad in
     cc
 
 -- ---- fronts of a legal journal
 
-legal_tail : (makes : Legality) (fronts : (p : Plan) (e : Entry) (j : List Entry) → makes p (e ∷ j) → makes p j) (p : Plan) (xs ys : List Entry) → makes p (xs ++ ys) → makes p ys
-legal_tail makes fronts p [] ys legal = legal
-legal_tail makes fronts p (x ∷ xs) ys legal = legal_tail makes fronts p xs ys (fronts p x (xs ++ ys) legal)
+legal_tail : {B : Type 0} (rules : Rulebook B) (fronts : (p : B) (e : Entry) (j : List Entry) → rules.makes p (e ∷ j) → rules.makes p j) (p : B) (xs ys : List Entry) → rules.makes p (xs ++ ys) → rules.makes p ys
+legal_tail rules fronts p [] ys legal = legal
+legal_tail rules fronts p (x ∷ xs) ys legal = legal_tail rules fronts p xs ys (fronts p x (xs ++ ys) legal)
 
 split_there : (j : List Entry) (i : ℕ) (e : Entry) → slice_get j i ≡ Some e → (rest : List Entry) × (j ≡ take i j ++ e ∷ rest)
 split_there [] i e h = absurd (cc)
 split_there (x ∷ j) zero e h = (j, let is : x ≡ e = cc in ap (λ (w : Entry). w ∷ j) is)
 split_there (x ∷ j) (suc i) e h = let (rest, is) = split_there j i e h in (rest, ap (λ (w : List Entry). x ∷ w) is)
 
-legal_until : (makes : Legality) (fronts : (p : Plan) (e : Entry) (j : List Entry) → makes p (e ∷ j) → makes p j) (p : Plan) (j : List Entry) (i : ℕ) (e : Entry) → makes p (reverse j) → slice_get j i ≡ Some e → makes p (e ∷ reverse (take i j))
-legal_until makes fronts p j i e legal there =
+legal_until : {B : Type 0} (rules : Rulebook B) (fronts : (p : B) (e : Entry) (j : List Entry) → rules.makes p (e ∷ j) → rules.makes p j) (p : B) (j : List Entry) (i : ℕ) (e : Entry) → rules.makes p (reverse j) → slice_get j i ≡ Some e → rules.makes p (e ∷ reverse (take i j))
+legal_until rules fronts p j i e legal there =
     let (rest, is) = split_there j i e there in
     let parts : reverse j ≡ reverse rest ++ (e ∷ reverse (take i j)) =
     ap reverse is ∙ reverse-append (take i j) (e ∷ rest) ∙ ap (λ (w : List Entry). w ++ reverse (take i j)) (reverse-append (e ∷ []) rest)
     ∙ append_assoc (reverse rest) (e ∷ []) (reverse (take i j)) in
-    legal_tail makes fronts p (reverse rest) (e ∷ reverse (take i j)) (subst (makes p) parts legal)
+    legal_tail rules fronts p (reverse rest) (e ∷ reverse (take i j)) (subst (rules.makes p) parts legal)
 
 nothing : (k : ℕ) → let none : List Entry = [] in take k none ≡ none
 nothing zero = refl
@@ -74,112 +72,112 @@ front_of_front (x ∷ j) zero k l = refl
 front_of_front (x ∷ j) (suc i) zero l = absurd (omega arith)
 front_of_front (x ∷ j) (suc i) (suc k) l = ap (λ (w : List Entry). x ∷ w) (front_of_front j i k (omega arith))
 
-not_before : (makes : Legality) (fronts : (p : Plan) (e : Entry) (j : List Entry) → makes p (e ∷ j) → makes p j) (p : Plan) (j : List Entry) (i k : ℕ) (e f : Entry) → FirstIllegal makes p j i e → FirstIllegal makes p j k f → i < k → ⊥
-not_before makes fronts p j i k e f x y l =
-    let legal = legal_until makes fronts p (take k j) i e y.before (there_in_front j i k l ∙ x.there) in
-    x.with_it (subst (λ (w : List Entry). makes p (e ∷ reverse w)) (front_of_front j i k (omega arith)) legal)
+not_before : {B : Type 0} (rules : Rulebook B) (fronts : (p : B) (e : Entry) (j : List Entry) → rules.makes p (e ∷ j) → rules.makes p j) (p : B) (j : List Entry) (i k : ℕ) (e f : Entry) → FirstIllegal rules.makes p j i e → FirstIllegal rules.makes p j k f → i < k → ⊥
+not_before rules fronts p j i k e f x y l =
+    let legal = legal_until rules fronts p (take k j) i e y.before (there_in_front j i k l ∙ x.there) in
+    x.with_it (subst (λ (w : List Entry). rules.makes p (e ∷ reverse w)) (front_of_front j i k (omega arith)) legal)
 
-same_place : (makes : Legality) (fronts : (p : Plan) (e : Entry) (j : List Entry) → makes p (e ∷ j) → makes p j) (p : Plan) (j : List Entry) (i k : ℕ) (e f : Entry) → FirstIllegal makes p j i e → FirstIllegal makes p j k f → i ≡ k
-same_place makes fronts p j i k e f x y =
+same_place : {B : Type 0} (rules : Rulebook B) (fronts : (p : B) (e : Entry) (j : List Entry) → rules.makes p (e ∷ j) → rules.makes p j) (p : B) (j : List Entry) (i k : ℕ) (e f : Entry) → FirstIllegal rules.makes p j i e → FirstIllegal rules.makes p j k f → i ≡ k
+same_place rules fronts p j i k e f x y =
     elim (ltb i k) as (λ b. ltb i k ≡ b → i ≡ k) [
-      | true ↦ (λ h. absurd (not_before makes fronts p j i k e f x y (ltb-true _ _ h)))
+      | true ↦ (λ h. absurd (not_before rules fronts p j i k e f x y (ltb-true _ _ h)))
       | false ↦ (λ h. elim (ltb k i) as (λ b. ltb k i ≡ b → i ≡ k) [
-        | true ↦ (λ g. absurd (not_before makes fronts p j k i f e y x (ltb-true _ _ g)))
+        | true ↦ (λ g. absurd (not_before rules fronts p j k i f e y x (ltb-true _ _ g)))
         | false ↦ (λ g. let a : k ≤ i = ltb-false _ _ h in let b : i ≤ k = ltb-false _ _ g in omega arith)
       ] refl)
     ] refl
 
 -- ---- verdicts
 
-same_fault : (makes : Legality) (fronts : (p : Plan) (e : Entry) (j : List Entry) → makes p (e ∷ j) → makes p j) (ls : List (List ℕ)) (i k : ℕ) (b c : Bool) → HasFault makes ls i b → HasFault makes ls k c → (i ≡ k) × (b ≡ c)
-same_fault makes fronts ls i k b c x y =
-    let (plans, journals) = spells_once ls y.plan x.plan y.journal x.journal y.spelled x.spelled in
-    let first : FirstIllegal makes x.plan x.journal k y.entry = subst (λ (w : List Entry). FirstIllegal makes x.plan w k y.entry) journals (subst (λ (p : Plan). FirstIllegal makes p y.journal k y.entry) plans y.first) in
-    let place : i ≡ k = same_place makes fronts x.plan x.journal i k x.entry y.entry x.first first in
+same_fault : {B : Type 0} (rules : Rulebook B) (fronts : (p : B) (e : Entry) (j : List Entry) → rules.makes p (e ∷ j) → rules.makes p j) (ls : List (List ℕ)) (i k : ℕ) (b c : Bool) → HasFault rules ls i b → HasFault rules ls k c → (i ≡ k) × (b ≡ c)
+same_fault {B} rules fronts ls i k b c x y =
+    let (plans, journals) = spells_once rules.spelled ls y.basis x.basis y.journal x.journal y.spelled x.spelled in
+    let first : FirstIllegal rules.makes x.basis x.journal k y.entry = subst (λ (w : List Entry). FirstIllegal rules.makes x.basis w k y.entry) journals (subst (λ (p : B). FirstIllegal rules.makes p y.journal k y.entry) plans y.first) in
+    let place : i ≡ k = same_place rules fronts x.basis x.journal i k x.entry y.entry x.first first in
     let entries : Some x.entry ≡ Some y.entry = sym x.first.there ∙ ap (slice_get x.journal) place ∙ first.there in
     let entry : x.entry ≡ y.entry = cc in
-    (place, sym x.names ∙ ap (entry_beyond x.plan) entry ∙ ap (λ (p : Plan). entry_beyond p y.entry) (sym plans) ∙ y.names)
+    (place, sym x.names ∙ ap (entry_beyond_in (rules.lanes x.basis) (rules.plan x.basis)) entry ∙ ap (λ (p : B). entry_beyond_in (rules.lanes p) (rules.plan p) y.entry) (sym plans) ∙ y.names)
 
-not_wrong : (makes : Legality) (fronts : (p : Plan) (e : Entry) (j : List Entry) → makes p (e ∷ j) → makes p j) (ls : List (List ℕ)) (a n i : ℕ) (b : Bool) → IsYes makes ls a n → HasFault makes ls i b → ⊥
-not_wrong makes fronts ls a n i b x y =
-    let (plans, journals) = spells_once ls y.plan x.plan y.journal x.journal y.spelled x.spelled in
-    let first : FirstIllegal makes x.plan x.journal i y.entry = subst (λ (w : List Entry). FirstIllegal makes x.plan w i y.entry) journals (subst (λ (p : Plan). FirstIllegal makes p y.journal i y.entry) plans y.first) in
-    first.with_it (legal_until makes fronts x.plan x.journal i y.entry x.legal first.there)
+not_wrong : {B : Type 0} (rules : Rulebook B) (fronts : (p : B) (e : Entry) (j : List Entry) → rules.makes p (e ∷ j) → rules.makes p j) (ls : List (List ℕ)) (a n i : ℕ) (b : Bool) → IsYes rules ls a n → HasFault rules ls i b → ⊥
+not_wrong {B} rules fronts ls a n i b x y =
+    let (plans, journals) = spells_once rules.spelled ls y.basis x.basis y.journal x.journal y.spelled x.spelled in
+    let first : FirstIllegal rules.makes x.basis x.journal i y.entry = subst (λ (w : List Entry). FirstIllegal rules.makes x.basis w i y.entry) journals (subst (λ (p : B). FirstIllegal rules.makes p y.journal i y.entry) plans y.first) in
+    first.with_it (legal_until rules fronts x.basis x.journal i y.entry x.legal first.there)
 
-not_unsound : (ls : List (List ℕ)) (p : Plan) (j : List Entry) → Spells ls p j → Sound p → IsBadPlan ls → ⊥
-not_unsound ls p j s sound x = x.unsound (subst Sound (spells_once ls p x.plan j x.journal s x.spelled).0 sound)
+not_unsound : {B : Type 0} (rules : Rulebook B) (ls : List (List ℕ)) (p : B) (j : List Entry) → Spells rules.spelled ls p j → rules.sound p → IsBadPlan rules ls → ⊥
+not_unsound rules ls p j s sound x = x.unsound (subst rules.sound (spells_once rules.spelled ls p x.basis j x.journal s x.spelled).0 sound)
 
-same_yes : (makes : Legality) (ls : List (List ℕ)) (a b n m : ℕ) → IsYes makes ls a n → IsYes makes ls b m → (b ≡ a) × (m ≡ n)
-same_yes makes ls a b n m x y =
-    let (plans, journals) = spells_once ls y.plan x.plan y.journal x.journal y.spelled x.spelled in
-    (y.actions_are ∙ ap (λ (p : Plan). length p.actions) plans ∙ sym x.actions_are, y.entries_are ∙ ap length journals ∙ sym x.entries_are)
+same_yes : {B : Type 0} (rules : Rulebook B) (ls : List (List ℕ)) (a b n m : ℕ) → IsYes rules ls a n → IsYes rules ls b m → (b ≡ a) × (m ≡ n)
+same_yes {B} rules ls a b n m x y =
+    let (plans, journals) = spells_once rules.spelled ls y.basis x.basis y.journal x.journal y.spelled x.spelled in
+    (y.actions_are ∙ ap (λ (p : B). length (rules.plan p).actions) plans ∙ sym x.actions_are, y.entries_are ∙ ap length journals ∙ sym x.entries_are)
 
-said_once : (makes : Legality) (fronts : (p : Plan) (e : Entry) (j : List Entry) → makes p (e ∷ j) → makes p j) (ls : List (List ℕ)) (v w : Verdict) → Says makes ls v → Says makes ls w → w ≡ v
-said_once makes fronts ls (verdict.Yes a n) (verdict.Yes b m) x y = let (c, d) = same_yes makes ls a b n m x y in ap (λ (k : ℕ). verdict.Yes k m) c ∙ ap (verdict.Yes a) d
-said_once makes fronts ls (verdict.Yes a n) verdict.TooLong x y = absurd y
-said_once makes fronts ls (verdict.Yes a n) (verdict.BadLine k) x y = absurd (not_bad ls x.plan x.journal k x.spelled y)
-said_once makes fronts ls (verdict.Yes a n) verdict.BadPlan x y = absurd (not_unsound ls x.plan x.journal x.spelled x.sound y)
-said_once makes fronts ls (verdict.Yes a n) (verdict.OutOfPlan i) x y = absurd (not_wrong makes fronts ls a n i true x y)
-said_once makes fronts ls (verdict.Yes a n) (verdict.Illegal i) x y = absurd (not_wrong makes fronts ls a n i false x y)
-said_once makes fronts ls verdict.TooLong w x y = absurd x
-said_once makes fronts ls (verdict.BadLine k) (verdict.Yes a n) x y = absurd (not_bad ls y.plan y.journal k y.spelled x)
-said_once makes fronts ls (verdict.BadLine k) verdict.TooLong x y = absurd y
-said_once makes fronts ls (verdict.BadLine k) (verdict.BadLine m) x y = let both : Some k ≡ Some m = sym x ∙ y in let same : m ≡ k = cc in ap verdict.BadLine same
-said_once makes fronts ls (verdict.BadLine k) verdict.BadPlan x y = absurd (not_bad ls y.plan y.journal k y.spelled x)
-said_once makes fronts ls (verdict.BadLine k) (verdict.OutOfPlan i) x y = absurd (not_bad ls y.plan y.journal k y.spelled x)
-said_once makes fronts ls (verdict.BadLine k) (verdict.Illegal i) x y = absurd (not_bad ls y.plan y.journal k y.spelled x)
-said_once makes fronts ls verdict.BadPlan (verdict.Yes a n) x y = absurd (not_unsound ls y.plan y.journal y.spelled y.sound x)
-said_once makes fronts ls verdict.BadPlan verdict.TooLong x y = absurd y
-said_once makes fronts ls verdict.BadPlan (verdict.BadLine k) x y = absurd (not_bad ls x.plan x.journal k x.spelled y)
-said_once makes fronts ls verdict.BadPlan verdict.BadPlan x y = refl
-said_once makes fronts ls verdict.BadPlan (verdict.OutOfPlan i) x y = absurd (not_unsound ls y.plan y.journal y.spelled y.sound x)
-said_once makes fronts ls verdict.BadPlan (verdict.Illegal i) x y = absurd (not_unsound ls y.plan y.journal y.spelled y.sound x)
-said_once makes fronts ls (verdict.OutOfPlan i) (verdict.Yes a n) x y = absurd (not_wrong makes fronts ls a n i true y x)
-said_once makes fronts ls (verdict.OutOfPlan i) verdict.TooLong x y = absurd y
-said_once makes fronts ls (verdict.OutOfPlan i) (verdict.BadLine k) x y = absurd (not_bad ls x.plan x.journal k x.spelled y)
-said_once makes fronts ls (verdict.OutOfPlan i) verdict.BadPlan x y = absurd (not_unsound ls x.plan x.journal x.spelled x.sound y)
-said_once makes fronts ls (verdict.OutOfPlan i) (verdict.OutOfPlan k) x y = ap verdict.OutOfPlan (sym (same_fault makes fronts ls i k true true x y).0)
-said_once makes fronts ls (verdict.OutOfPlan i) (verdict.Illegal k) x y = absurd (let kinds = (same_fault makes fronts ls i k true false x y).1 in cc)
-said_once makes fronts ls (verdict.Illegal i) (verdict.Yes a n) x y = absurd (not_wrong makes fronts ls a n i false y x)
-said_once makes fronts ls (verdict.Illegal i) verdict.TooLong x y = absurd y
-said_once makes fronts ls (verdict.Illegal i) (verdict.BadLine k) x y = absurd (not_bad ls x.plan x.journal k x.spelled y)
-said_once makes fronts ls (verdict.Illegal i) verdict.BadPlan x y = absurd (not_unsound ls x.plan x.journal x.spelled x.sound y)
-said_once makes fronts ls (verdict.Illegal i) (verdict.OutOfPlan k) x y = absurd (let kinds = (same_fault makes fronts ls i k false true x y).1 in cc)
-said_once makes fronts ls (verdict.Illegal i) (verdict.Illegal k) x y = ap verdict.Illegal (sym (same_fault makes fronts ls i k false false x y).0)
+said_once : {B : Type 0} (rules : Rulebook B) (fronts : (p : B) (e : Entry) (j : List Entry) → rules.makes p (e ∷ j) → rules.makes p j) (ls : List (List ℕ)) (v w : Verdict) → Says rules ls v → Says rules ls w → w ≡ v
+said_once rules fronts ls (verdict.Yes a n) (verdict.Yes b m) x y = let (c, d) = same_yes rules ls a b n m x y in ap (λ (k : ℕ). verdict.Yes k m) c ∙ ap (verdict.Yes a) d
+said_once rules fronts ls (verdict.Yes a n) verdict.TooLong x y = absurd y
+said_once rules fronts ls (verdict.Yes a n) (verdict.BadLine k) x y = absurd (not_bad rules.spelled ls x.basis x.journal k x.spelled y)
+said_once rules fronts ls (verdict.Yes a n) verdict.BadPlan x y = absurd (not_unsound rules ls x.basis x.journal x.spelled x.sound y)
+said_once rules fronts ls (verdict.Yes a n) (verdict.OutOfPlan i) x y = absurd (not_wrong rules fronts ls a n i true x y)
+said_once rules fronts ls (verdict.Yes a n) (verdict.Illegal i) x y = absurd (not_wrong rules fronts ls a n i false x y)
+said_once rules fronts ls verdict.TooLong w x y = absurd x
+said_once rules fronts ls (verdict.BadLine k) (verdict.Yes a n) x y = absurd (not_bad rules.spelled ls y.basis y.journal k y.spelled x)
+said_once rules fronts ls (verdict.BadLine k) verdict.TooLong x y = absurd y
+said_once rules fronts ls (verdict.BadLine k) (verdict.BadLine m) x y = let both : Some k ≡ Some m = sym x ∙ y in let same : m ≡ k = cc in ap verdict.BadLine same
+said_once rules fronts ls (verdict.BadLine k) verdict.BadPlan x y = absurd (not_bad rules.spelled ls y.basis y.journal k y.spelled x)
+said_once rules fronts ls (verdict.BadLine k) (verdict.OutOfPlan i) x y = absurd (not_bad rules.spelled ls y.basis y.journal k y.spelled x)
+said_once rules fronts ls (verdict.BadLine k) (verdict.Illegal i) x y = absurd (not_bad rules.spelled ls y.basis y.journal k y.spelled x)
+said_once rules fronts ls verdict.BadPlan (verdict.Yes a n) x y = absurd (not_unsound rules ls y.basis y.journal y.spelled y.sound x)
+said_once rules fronts ls verdict.BadPlan verdict.TooLong x y = absurd y
+said_once rules fronts ls verdict.BadPlan (verdict.BadLine k) x y = absurd (not_bad rules.spelled ls x.basis x.journal k x.spelled y)
+said_once rules fronts ls verdict.BadPlan verdict.BadPlan x y = refl
+said_once rules fronts ls verdict.BadPlan (verdict.OutOfPlan i) x y = absurd (not_unsound rules ls y.basis y.journal y.spelled y.sound x)
+said_once rules fronts ls verdict.BadPlan (verdict.Illegal i) x y = absurd (not_unsound rules ls y.basis y.journal y.spelled y.sound x)
+said_once rules fronts ls (verdict.OutOfPlan i) (verdict.Yes a n) x y = absurd (not_wrong rules fronts ls a n i true y x)
+said_once rules fronts ls (verdict.OutOfPlan i) verdict.TooLong x y = absurd y
+said_once rules fronts ls (verdict.OutOfPlan i) (verdict.BadLine k) x y = absurd (not_bad rules.spelled ls x.basis x.journal k x.spelled y)
+said_once rules fronts ls (verdict.OutOfPlan i) verdict.BadPlan x y = absurd (not_unsound rules ls x.basis x.journal x.spelled x.sound y)
+said_once rules fronts ls (verdict.OutOfPlan i) (verdict.OutOfPlan k) x y = ap verdict.OutOfPlan (sym (same_fault rules fronts ls i k true true x y).0)
+said_once rules fronts ls (verdict.OutOfPlan i) (verdict.Illegal k) x y = absurd (let kinds = (same_fault rules fronts ls i k true false x y).1 in cc)
+said_once rules fronts ls (verdict.Illegal i) (verdict.Yes a n) x y = absurd (not_wrong rules fronts ls a n i false y x)
+said_once rules fronts ls (verdict.Illegal i) verdict.TooLong x y = absurd y
+said_once rules fronts ls (verdict.Illegal i) (verdict.BadLine k) x y = absurd (not_bad rules.spelled ls x.basis x.journal k x.spelled y)
+said_once rules fronts ls (verdict.Illegal i) verdict.BadPlan x y = absurd (not_unsound rules ls x.basis x.journal x.spelled x.sound y)
+said_once rules fronts ls (verdict.Illegal i) (verdict.OutOfPlan k) x y = absurd (let kinds = (same_fault rules fronts ls i k false true x y).1 in cc)
+said_once rules fronts ls (verdict.Illegal i) (verdict.Illegal k) x y = ap verdict.Illegal (sym (same_fault rules fronts ls i k false false x y).0)
 
-is_long : (makes : Legality) (bytes : List ℕ) (w : Verdict) → 268435456 < length bytes → Judges makes bytes w → w ≡ verdict.TooLong
-is_long makes bytes (verdict.Yes a n) l y = absurd (let s = y.0 in omega (arith, s))
-is_long makes bytes verdict.TooLong l y = refl
-is_long makes bytes (verdict.BadLine k) l y = absurd (let s = y.0 in omega (arith, s))
-is_long makes bytes verdict.BadPlan l y = absurd (let s = y.0 in omega (arith, s))
-is_long makes bytes (verdict.OutOfPlan i) l y = absurd (let s = y.0 in omega (arith, s))
-is_long makes bytes (verdict.Illegal i) l y = absurd (let s = y.0 in omega (arith, s))
+is_long : {B : Type 0} (rules : Rulebook B) (bytes : List ℕ) (w : Verdict) → 268435456 < length bytes → JudgesBy rules bytes w → w ≡ verdict.TooLong
+is_long rules bytes (verdict.Yes a n) l y = absurd (let s = y.0 in omega (arith, s))
+is_long rules bytes verdict.TooLong l y = refl
+is_long rules bytes (verdict.BadLine k) l y = absurd (let s = y.0 in omega (arith, s))
+is_long rules bytes verdict.BadPlan l y = absurd (let s = y.0 in omega (arith, s))
+is_long rules bytes (verdict.OutOfPlan i) l y = absurd (let s = y.0 in omega (arith, s))
+is_long rules bytes (verdict.Illegal i) l y = absurd (let s = y.0 in omega (arith, s))
 
-said : (makes : Legality) (fronts : (p : Plan) (e : Entry) (j : List Entry) → makes p (e ∷ j) → makes p j) (bytes : List ℕ) (v w : Verdict) → length bytes ≤ 268435456 → Says makes (lines_of bytes) v → Judges makes bytes w → w ≡ v
-said makes fronts bytes v (verdict.Yes a n) few x y = said_once makes fronts (lines_of bytes) v (verdict.Yes a n) x y.1
-said makes fronts bytes v verdict.TooLong few x y = absurd (omega (arith, y))
-said makes fronts bytes v (verdict.BadLine k) few x y = said_once makes fronts (lines_of bytes) v (verdict.BadLine k) x y.1
-said makes fronts bytes v verdict.BadPlan few x y = said_once makes fronts (lines_of bytes) v verdict.BadPlan x y.1
-said makes fronts bytes v (verdict.OutOfPlan i) few x y = said_once makes fronts (lines_of bytes) v (verdict.OutOfPlan i) x y.1
-said makes fronts bytes v (verdict.Illegal i) few x y = said_once makes fronts (lines_of bytes) v (verdict.Illegal i) x y.1
+said : {B : Type 0} (rules : Rulebook B) (fronts : (p : B) (e : Entry) (j : List Entry) → rules.makes p (e ∷ j) → rules.makes p j) (bytes : List ℕ) (v w : Verdict) → length bytes ≤ 268435456 → Says rules (lines_of bytes) v → JudgesBy rules bytes w → w ≡ v
+said rules fronts bytes v (verdict.Yes a n) few x y = said_once rules fronts (lines_of bytes) v (verdict.Yes a n) x y.1
+said rules fronts bytes v verdict.TooLong few x y = absurd (omega (arith, y))
+said rules fronts bytes v (verdict.BadLine k) few x y = said_once rules fronts (lines_of bytes) v (verdict.BadLine k) x y.1
+said rules fronts bytes v verdict.BadPlan few x y = said_once rules fronts (lines_of bytes) v verdict.BadPlan x y.1
+said rules fronts bytes v (verdict.OutOfPlan i) few x y = said_once rules fronts (lines_of bytes) v (verdict.OutOfPlan i) x y.1
+said rules fronts bytes v (verdict.Illegal i) few x y = said_once rules fronts (lines_of bytes) v (verdict.Illegal i) x y.1
 
-pub judged_once : (makes : Legality) (fronts : (p : Plan) (e : Entry) (j : List Entry) → makes p (e ∷ j) → makes p j) (bytes : List ℕ) (v w : Verdict) → Judges makes bytes v → Judges makes bytes w → w ≡ v
-judged_once makes fronts bytes verdict.TooLong w x y = is_long makes bytes w x y
-judged_once makes fronts bytes (verdict.Yes a n) w x y = said makes fronts bytes (verdict.Yes a n) w x.0 x.1 y
-judged_once makes fronts bytes (verdict.BadLine k) w x y = said makes fronts bytes (verdict.BadLine k) w x.0 x.1 y
-judged_once makes fronts bytes verdict.BadPlan w x y = said makes fronts bytes verdict.BadPlan w x.0 x.1 y
-judged_once makes fronts bytes (verdict.OutOfPlan i) w x y = said makes fronts bytes (verdict.OutOfPlan i) w x.0 x.1 y
-judged_once makes fronts bytes (verdict.Illegal i) w x y = said makes fronts bytes (verdict.Illegal i) w x.0 x.1 y
+pub judged_once : {B : Type 0} (rules : Rulebook B) (fronts : (p : B) (e : Entry) (j : List Entry) → rules.makes p (e ∷ j) → rules.makes p j) (bytes : List ℕ) (v w : Verdict) → JudgesBy rules bytes v → JudgesBy rules bytes w → w ≡ v
+judged_once rules fronts bytes verdict.TooLong w x y = is_long rules bytes w x y
+judged_once rules fronts bytes (verdict.Yes a n) w x y = said rules fronts bytes (verdict.Yes a n) w x.0 x.1 y
+judged_once rules fronts bytes (verdict.BadLine k) w x y = said rules fronts bytes (verdict.BadLine k) w x.0 x.1 y
+judged_once rules fronts bytes verdict.BadPlan w x y = said rules fronts bytes verdict.BadPlan w x.0 x.1 y
+judged_once rules fronts bytes (verdict.OutOfPlan i) w x y = said rules fronts bytes (verdict.OutOfPlan i) w x.0 x.1 y
+judged_once rules fronts bytes (verdict.Illegal i) w x y = said rules fronts bytes (verdict.Illegal i) w x.0 x.1 y
 
-pub judge_said : (makes : Legality) (bytes : List ℕ) (v : Verdict) → length bytes ≤ 268435456 → Says makes (lines_of bytes) v → Judges makes bytes v
-judge_said makes bytes (verdict.Yes a n) few x = (few, x)
-judge_said makes bytes verdict.TooLong few x = absurd x
-judge_said makes bytes (verdict.BadLine k) few x = (few, x)
-judge_said makes bytes verdict.BadPlan few x = (few, x)
-judge_said makes bytes (verdict.OutOfPlan i) few x = (few, x)
-judge_said makes bytes (verdict.Illegal i) few x = (few, x)
+pub judge_said : {B : Type 0} (rules : Rulebook B) (bytes : List ℕ) (v : Verdict) → length bytes ≤ 268435456 → Says rules (lines_of bytes) v → JudgesBy rules bytes v
+judge_said rules bytes (verdict.Yes a n) few x = (few, x)
+judge_said rules bytes verdict.TooLong few x = absurd x
+judge_said rules bytes (verdict.BadLine k) few x = (few, x)
+judge_said rules bytes verdict.BadPlan few x = (few, x)
+judge_said rules bytes (verdict.OutOfPlan i) few x = (few, x)
+judge_said rules bytes (verdict.Illegal i) few x = (few, x)
 
 -- what is answered is all that is due
-pub judged_only : {E : Type 0} (makes : Legality) (fronts : (p : Plan) (e : Entry) (j : List Entry) → makes p (e ∷ j) → makes p j) (bytes : List ℕ) (r : Result Verdict E) → IfOk r (Judges makes bytes) → IfOk r (λ v. (w : Verdict) → Judges makes bytes w → w ≡ v)
-judged_only makes fronts bytes (Ok v) judged = λ w due. judged_once makes fronts bytes v w judged due
-judged_only makes fronts bytes (Err e) judged = judged
+pub judged_only : {B E : Type 0} (rules : Rulebook B) (fronts : (p : B) (e : Entry) (j : List Entry) → rules.makes p (e ∷ j) → rules.makes p j) (bytes : List ℕ) (r : Result Verdict E) → IfOk r (JudgesBy rules bytes) → IfOk r (λ v. (w : Verdict) → JudgesBy rules bytes w → w ≡ v)
+judged_only rules fronts bytes (Ok v) judged = λ w due. judged_once rules fronts bytes v w judged due
+judged_only rules fronts bytes (Err e) judged = judged

@@ -3,7 +3,7 @@ use Rattle.std.proofs.Common.{◌≡◌, ℕ, ◌+◌, ◌-◌, ◌<◌, ◌≤�
 use Rattle.std.proofs.lemmas.Bool.{eqb-true, ne_eqb}
 use Rattle.std.proofs.lemmas.List.{get_or-drop, take_all, take_more}
 use Rattle.journal_text.specs.Lines.{last_line, lines_behind, lines_of}
-use Rattle.journal_replay.specs.Legality.{Legality, Standing}
+use Rattle.journal_replay.specs.Legality.{Rulebook, Standing}
 use Rattle.journal_replay.specs.Fed.{CutAt, FedSo}
 use Rattle.journal_replay.specs.Staged.{KnowsStage}
 use Rattle.journal_replay.specs.declared.auditor.Found.TheVariants as found
@@ -40,15 +40,15 @@ cut_all bytes lines line s = ap lines_of (sym (append-nil bytes)) ∙ s.cut []
 
 -- ---- what is known
 
-pub fed_text : {C : Type 0} (makes : Legality) (stands : Standing C) → FedSo false makes stands (stage.Text 0 found.Nothing) 1 [] []
-fed_text makes stands = record { lines = []; knows = record { within = omega arith; skipped = λ more. refl; knows = refl }; number_is = refl; split = cut_none }
+pub fed_text : {B C : Type 0} (rules : Rulebook B) (stands : Standing B C) → FedSo false rules stands (stage.Text 0 found.Nothing) 1 [] []
+fed_text rules stands = record { lines = []; knows = record { within = omega arith; skipped = λ more. refl; knows = refl }; number_is = refl; split = cut_none }
 
-pub fed_input : {C : Type 0} (makes : Legality) (stands : Standing C) → FedSo true makes stands stage.Report 1 [] []
-fed_input makes stands = record { lines = []; knows = record { looks = refl; each = refl }; number_is = refl; split = cut_none }
+pub fed_input : {B C : Type 0} (rules : Rulebook B) (stands : Standing B C) → FedSo true rules stands stage.Report 1 [] []
+fed_input rules stands = record { lines = []; knows = record { looks = refl; each = refl }; number_is = refl; split = cut_none }
 
 -- the byte ends no line
-pub fed_byte : {C : Type 0} (skips : Bool) (makes : Legality) (stands : Standing C) (f : Stage C) (n : ℕ) (line bytes : List ℕ) (b : ℕ) → FedSo skips makes stands f n line bytes → (b ≡ 10 → ⊥) → FedSo skips makes stands f n (line ++ b ∷ []) (bytes ++ b ∷ [])
-fed_byte skips makes stands f n line bytes b s other = record {
+pub fed_byte : {B C : Type 0} (skips : Bool) (rules : Rulebook B) (stands : Standing B C) (f : Stage C) (n : ℕ) (line bytes : List ℕ) (b : ℕ) → FedSo skips rules stands f n line bytes → (b ≡ 10 → ⊥) → FedSo skips rules stands f n (line ++ b ∷ []) (bytes ++ b ∷ [])
+fed_byte skips rules stands f n line bytes b s other = record {
   lines = s.lines;
   knows = s.knows;
   number_is = s.number_is;
@@ -56,9 +56,9 @@ fed_byte skips makes stands f n line bytes b s other = record {
 }
 
 -- or it does
-pub fed_line : {C : Type 0} (skips : Bool) (makes : Legality) (stands : Standing C) (f g : Stage C) (n m : ℕ) (line bytes : List ℕ) (s : FedSo skips makes stands f n line bytes) → KnowsStage skips makes stands g (s.lines ++ line ∷ []) → m ≡ min (n + 1) (2 ^ 64 - 1) → length bytes < 2 ^ 63
-    → FedSo skips makes stands g m [] (bytes ++ 10 ∷ [])
-fed_line skips makes stands f g n m line bytes s knows next few =
+pub fed_line : {B C : Type 0} (skips : Bool) (rules : Rulebook B) (stands : Standing B C) (f g : Stage C) (n m : ℕ) (line bytes : List ℕ) (s : FedSo skips rules stands f n line bytes) → KnowsStage skips rules stands g (s.lines ++ line ∷ []) → m ≡ min (n + 1) (2 ^ 64 - 1) → length bytes < 2 ^ 63
+    → FedSo skips rules stands g m [] (bytes ++ 10 ∷ [])
+fed_line skips rules stands f g n m line bytes s knows next few =
     let number = s.number_is in
     let fewer = s.split.few in
     let more_lines : length (s.lines ++ line ∷ []) ≡ length s.lines + 1 = length-append s.lines (line ∷ []) in
@@ -118,13 +118,13 @@ no_line : (s : List ℕ) → length s ≡ 0 → last_line s ≡ []
 no_line [] none = refl
 no_line (b ∷ bs) none = absurd (omega arith)
 
-pub known_last : {C : Type 0} (skips : Bool) (makes : Legality) (stands : Standing C) (f g : Stage C) (n : ℕ) (line bytes : List ℕ) (s : FedSo skips makes stands f n line bytes) → 0 < length line → KnowsStage skips makes stands g (s.lines ++ line ∷ []) → KnowsStage skips makes stands g (lines_of bytes)
-known_last skips makes stands f g n line bytes s more knows =
-    subst (KnowsStage skips makes stands g) (sym (cut_all bytes s.lines line s.split ∙ ap (λ (x : List (List ℕ)). s.lines ++ x) (some_line line more))) knows
+pub known_last : {B C : Type 0} (skips : Bool) (rules : Rulebook B) (stands : Standing B C) (f g : Stage C) (n : ℕ) (line bytes : List ℕ) (s : FedSo skips rules stands f n line bytes) → 0 < length line → KnowsStage skips rules stands g (s.lines ++ line ∷ []) → KnowsStage skips rules stands g (lines_of bytes)
+known_last skips rules stands f g n line bytes s more knows =
+    subst (KnowsStage skips rules stands g) (sym (cut_all bytes s.lines line s.split ∙ ap (λ (x : List (List ℕ)). s.lines ++ x) (some_line line more))) knows
 
-pub known_all : {C : Type 0} (skips : Bool) (makes : Legality) (stands : Standing C) (f : Stage C) (n : ℕ) (line bytes : List ℕ) (s : FedSo skips makes stands f n line bytes) → length line ≡ 0 → KnowsStage skips makes stands f (lines_of bytes)
-known_all skips makes stands f n line bytes s none =
-    subst (KnowsStage skips makes stands f) (sym (cut_all bytes s.lines line s.split ∙ ap (λ (x : List (List ℕ)). s.lines ++ x) (no_line line none) ∙ append-nil s.lines)) s.knows
+pub known_all : {B C : Type 0} (skips : Bool) (rules : Rulebook B) (stands : Standing B C) (f : Stage C) (n : ℕ) (line bytes : List ℕ) (s : FedSo skips rules stands f n line bytes) → length line ≡ 0 → KnowsStage skips rules stands f (lines_of bytes)
+known_all skips rules stands f n line bytes s none =
+    subst (KnowsStage skips rules stands f) (sym (cut_all bytes s.lines line s.split ∙ ap (λ (x : List (List ℕ)). s.lines ++ x) (no_line line none) ∙ append-nil s.lines)) s.knows
 
 lines_behind-fewer : (begun bytes : List ℕ) → length (lines_behind begun bytes) ≤ length bytes + 1
 lines_behind-fewer [] [] = omega arith
@@ -140,6 +140,6 @@ fewer_lines bytes few = let most = lines_behind-fewer [] bytes in omega arith
 
 -- ---- the same, said otherwise
 
-pub fed_same : {C : Type 0} (skips : Bool) (makes : Legality) (stands : Standing C) (f : Stage C) (n : ℕ) (line other bytes more : List ℕ) → FedSo skips makes stands f n line bytes → line ≡ other → bytes ≡ more → FedSo skips makes stands f n other more
-fed_same skips makes stands f n line other bytes more s same_line same_bytes =
-    subst (λ (x : List ℕ). FedSo skips makes stands f n x more) same_line (subst (λ (x : List ℕ). FedSo skips makes stands f n line x) same_bytes s)
+pub fed_same : {B C : Type 0} (skips : Bool) (rules : Rulebook B) (stands : Standing B C) (f : Stage C) (n : ℕ) (line other bytes more : List ℕ) → FedSo skips rules stands f n line bytes → line ≡ other → bytes ≡ more → FedSo skips rules stands f n other more
+fed_same skips rules stands f n line other bytes more s same_line same_bytes =
+    subst (λ (x : List ℕ). FedSo skips rules stands f n x more) same_line (subst (λ (x : List ℕ). FedSo skips rules stands f n line x) same_bytes s)

@@ -12,14 +12,14 @@ use Rattle.exec_journal.specs.Entry.{Entry}
 use Rattle.exec_journal.specs.declared.reply.Reply.{Reply}
 use Rattle.exec_journal.specs.Entries.{is_kept}
 use Rattle.exec_journal.specs.Legal.{after}
-use Rattle.journal_text.specs.Lines.{entry_of, plan_of}
+use Rattle.journal_text.specs.Lines.{entry_of}
 use Rattle.journal_text.specs.Options.{◌>>=◌, each}
-use Rattle.journal_replay.specs.Legality.{Legality, joined}
+use Rattle.journal_replay.specs.Legality.{Rulebook, joined}
 use Rattle.journal_replay.specs.Beyond.{entry_beyond_by, line_bound}
 use Rattle.journal_replay.specs.Bounds.{AreBounds}
 use Rattle.journal_replay.specs.Plans.{are_sound_groups, has_limits, is_sound}
 use Rattle.journal_replay.specs.declared.beyond.Bounds.{Bounds}
-use Rattle.journal_replay.specs.Knows.{IsBad}
+use Rattle.journal_replay.specs.Knows.{IsBad, SpellsUnsound}
 use Rattle.journal_replay.specs.Same.{is_told}
 use Rattle.journal_replay.specs.Spelled.{Spells, bad_entry, bad_line}
 use Rattle.journal_replay.specs.Verdicts.{FirstIllegal, HasFault, IsBadPlan}
@@ -49,12 +49,12 @@ each_more {A} {B} f (w ∷ xs) x ys y h is =
 
 -- ---- lines that spell
 
-pub spelled_more : (ls : List (List ℕ)) (p : Plan) (j : List Entry) (l : List ℕ) (e : Entry) → Spells ls p j → entry_of l ≡ Some e → Spells (ls ++ l ∷ []) p (j ++ e ∷ [])
-spelled_more ls p j l e s is = record {
+pub spelled_more : {B : Type 0} (spelled : List ℕ → Option B) (ls : List (List ℕ)) (p : B) (j : List Entry) (l : List ℕ) (e : Entry) → Spells spelled ls p j → entry_of l ≡ Some e → Spells spelled (ls ++ l ∷ []) p (j ++ e ∷ [])
+spelled_more spelled ls p j l e s is = record {
   top = s.top;
   rest = s.rest ++ l ∷ [];
   lines_are = ap (λ (x : List (List ℕ)). x ++ l ∷ []) s.lines_are;
-  plan = s.plan;
+  basis = s.basis;
   entries = each_more entry_of s.rest l j e s.entries is;
 }
 
@@ -66,16 +66,16 @@ bad_entry_more n k (w ∷ ls) l h =
       | false ↦ (λ g. g)
     ] h
 
-pub bad_more : (ls : List (List ℕ)) (k : ℕ) (l : List ℕ) → IsBad ls k → IsBad (ls ++ l ∷ []) k
-bad_more ls k l b =
+pub bad_more : {B : Type 0} (spelled : List ℕ → Option B) (ls : List (List ℕ)) (k : ℕ) (l : List ℕ) → IsBad spelled ls k → IsBad spelled (ls ++ l ∷ []) k
+bad_more spelled ls k l b =
     let whole : ls ++ l ∷ [] ≡ b.top ∷ (b.rest ++ l ∷ []) = ap (λ (x : List (List ℕ)). x ++ l ∷ []) b.lines_are in
-    let before : bad_line (b.top ∷ b.rest) ≡ Some k = ap bad_line (sym b.lines_are) ∙ b.bad in
-    let now : bad_line (b.top ∷ (b.rest ++ l ∷ [])) ≡ Some k =
-    elim (is_some (plan_of b.top)) as (λ t. cond t (bad_entry 2 b.rest) (Some 1) ≡ Some k → cond t (bad_entry 2 (b.rest ++ l ∷ [])) (Some 1) ≡ Some k) [
+    let before : bad_line spelled (b.top ∷ b.rest) ≡ Some k = ap (bad_line spelled) (sym b.lines_are) ∙ b.bad in
+    let now : bad_line spelled (b.top ∷ (b.rest ++ l ∷ [])) ≡ Some k =
+    elim (is_some (spelled b.top)) as (λ t. cond t (bad_entry 2 b.rest) (Some 1) ≡ Some k → cond t (bad_entry 2 (b.rest ++ l ∷ [])) (Some 1) ≡ Some k) [
       | true ↦ (λ g. bad_entry_more 2 k b.rest l g)
       | false ↦ (λ g. g)
     ] before in
-    record { top = b.top; rest = b.rest ++ l ∷ []; lines_are = whole; bad = ap bad_line whole ∙ now }
+    record { top = b.top; rest = b.rest ++ l ∷ []; lines_are = whole; bad = ap (bad_line spelled) whole ∙ now }
 
 bad_entry_last : (n : ℕ) (ls : List (List ℕ)) (l : List ℕ) (j : List Entry) → each entry_of ls ≡ Some j → is_some (entry_of l) ≡ false → bad_entry n (ls ++ l ∷ []) ≡ Some (n + length ls)
 bad_entry_last n [] l j h other = rw other (let same : n ≡ n + 0 = omega arith in ap Some same)
@@ -84,13 +84,13 @@ bad_entry_last n (w ∷ ls) l j h other =
     let same : suc n + length ls ≡ n + suc (length ls) = omega arith in
     rw p (bad_entry_last (suc n) ls l zs q other ∙ ap Some same)
 
-pub spelled_bad : (ls : List (List ℕ)) (p : Plan) (j : List Entry) (l : List ℕ) (n : ℕ) → Spells ls p j → is_some (entry_of l) ≡ false → n ≡ length ls + 1 → IsBad (ls ++ l ∷ []) n
-spelled_bad ls p j l n s other number =
+pub spelled_bad : {B : Type 0} (spelled : List ℕ → Option B) (ls : List (List ℕ)) (p : B) (j : List Entry) (l : List ℕ) (n : ℕ) → Spells spelled ls p j → is_some (entry_of l) ≡ false → n ≡ length ls + 1 → IsBad spelled (ls ++ l ∷ []) n
+spelled_bad spelled ls p j l n s other number =
     let whole : ls ++ l ∷ [] ≡ s.top ∷ (s.rest ++ l ∷ []) = ap (λ (x : List (List ℕ)). x ++ l ∷ []) s.lines_are in
     let long : length ls ≡ suc (length s.rest) = ap length s.lines_are in
     let count : 2 + length s.rest ≡ n = omega arith in
-    let now : bad_line (s.top ∷ (s.rest ++ l ∷ [])) ≡ Some n = rw s.plan (bad_entry_last 2 s.rest l j s.entries other ∙ ap Some count) in
-    record { top = s.top; rest = s.rest ++ l ∷ []; lines_are = whole; bad = ap bad_line whole ∙ now }
+    let now : bad_line spelled (s.top ∷ (s.rest ++ l ∷ [])) ≡ Some n = rw s.basis (bad_entry_last 2 s.rest l j s.entries other ∙ ap Some count) in
+    record { top = s.top; rest = s.rest ++ l ∷ []; lines_are = whole; bad = ap (bad_line spelled) whole ∙ now }
 
 pub is_read : {A : Type 0} (o : Option A) (b : Bool) → b ≡ is_some o → b ≡ true → (x : A) × (o ≡ Some x)
 is_read None b h t = absurd (cc)
@@ -110,32 +110,32 @@ slice_get-last (w ∷ xs) x = slice_get-last xs x
 pub newest : (j : List Entry) (e : Entry) → reverse (j ++ e ∷ []) ≡ e ∷ reverse j
 newest j e = reverse-append j (e ∷ [])
 
-fault_more : (makes : Legality) (p : Plan) (j : List Entry) (i : ℕ) (e x : Entry) → FirstIllegal makes p j i e → FirstIllegal makes p (j ++ x ∷ []) i e
-fault_more makes p j i e x f =
+fault_more : {B : Type 0} (rules : Rulebook B) (p : B) (j : List Entry) (i : ℕ) (e x : Entry) → FirstIllegal rules.makes p j i e → FirstIllegal rules.makes p (j ++ x ∷ []) i e
+fault_more rules p j i e x f =
     let within : i < length j = slice_get_within j i e f.there in
     let same : take i (j ++ x ∷ []) ≡ take i j = take-append-le i j (x ∷ []) (omega arith) in
     record {
       there = slice_get-append j (x ∷ []) i e f.there;
-      before = subst (λ (k : List Entry). makes p (reverse k)) (sym same) f.before;
-      with_it = λ legal. f.with_it (subst (λ (k : List Entry). makes p (e ∷ reverse k)) same legal);
+      before = subst (λ (k : List Entry). rules.makes p (reverse k)) (sym same) f.before;
+      with_it = λ legal. f.with_it (subst (λ (k : List Entry). rules.makes p (e ∷ reverse k)) same legal);
     }
 
-pub wrong_more : (makes : Legality) (ls : List (List ℕ)) (i : ℕ) (b : Bool) (l : List ℕ) (e : Entry) → HasFault makes ls i b → entry_of l ≡ Some e → HasFault makes (ls ++ l ∷ []) i b
-wrong_more makes ls i b l e f is = record {
-  plan = f.plan;
+pub wrong_more : {B : Type 0} (rules : Rulebook B) (ls : List (List ℕ)) (i : ℕ) (b : Bool) (l : List ℕ) (e : Entry) → HasFault rules ls i b → entry_of l ≡ Some e → HasFault rules (ls ++ l ∷ []) i b
+wrong_more rules ls i b l e f is = record {
+  basis = f.basis;
   journal = f.journal ++ e ∷ [];
   entry = f.entry;
-  spelled = spelled_more ls f.plan f.journal l e f.spelled is;
+  spelled = spelled_more rules.spelled ls f.basis f.journal l e f.spelled is;
   sound = f.sound;
-  first = fault_more makes f.plan f.journal i f.entry e f.first;
+  first = fault_more rules f.basis f.journal i f.entry e f.first;
   names = f.names;
 }
 
-pub unsound_more : (ls : List (List ℕ)) (l : List ℕ) (e : Entry) → IsBadPlan ls → entry_of l ≡ Some e → IsBadPlan (ls ++ l ∷ [])
-unsound_more ls l e f is = record {
-  plan = f.plan;
+pub unsound_more : {B : Type 0} (rules : Rulebook B) (ls : List (List ℕ)) (l : List ℕ) (e : Entry) → IsBadPlan rules ls → entry_of l ≡ Some e → IsBadPlan rules (ls ++ l ∷ [])
+unsound_more rules ls l e f is = record {
+  basis = f.basis;
   journal = f.journal ++ e ∷ [];
-  spelled = spelled_more ls f.plan f.journal l e f.spelled is;
+  spelled = spelled_more rules.spelled ls f.basis f.journal l e f.spelled is;
   unsound = f.unsound;
 }
 
@@ -150,8 +150,8 @@ joins j e r h =
     rw (kept, is) refl
 
 -- the rules make no journal with the reply that the entry has
-pub not_told : (makes : Legality) (kept : (p : Plan) (e : Entry) (j : List Entry) → makes p (e ∷ j) → is_kept e.reply ≡ true) (p : Plan) (j : List Entry) (e : Entry) (r : Reply) → ((x : Reply) → makes p (joined j e.lane e.call x) → r ≡ x) → is_told e.reply r ≡ false → makes p (e ∷ j) → ⊥
-not_told makes kept p j e r only other legal =
+pub not_told : {B : Type 0} (rules : Rulebook B) (kept : (p : B) (e : Entry) (j : List Entry) → rules.makes p (e ∷ j) → is_kept e.reply ≡ true) (p : B) (j : List Entry) (e : Entry) (r : Reply) → ((x : Reply) → rules.makes p (joined j e.lane e.call x) → r ≡ x) → is_told e.reply r ≡ false → rules.makes p (e ∷ j) → ⊥
+not_told rules kept p j e r only other legal =
     let told : is_told e.reply r ≡ true = ap (is_told e.reply) (only e.reply legal) ∙ kept_told e.reply (kept p e j legal) in
     let both : true ≡ false = sym told ∙ other in
     cc
@@ -164,43 +164,46 @@ each_length f (x ∷ xs) ys h =
     let rest : length zs ≡ length xs = each_length f xs zs q in
     omega arith
 
-pub entries_fewer : (ls : List (List ℕ)) (p : Plan) (j : List Entry) → Spells ls p j → length j < length ls
-entries_fewer ls p j s =
+pub entries_fewer : {B : Type 0} (spelled : List ℕ → Option B) (ls : List (List ℕ)) (p : B) (j : List Entry) → Spells spelled ls p j → length j < length ls
+entries_fewer spelled ls p j s =
     let long : length ls ≡ suc (length s.rest) = ap length s.lines_are in
     let same : length j ≡ length s.rest = each_length entry_of s.rest j s.entries in
     omega arith
 
-pub counted : (ls : List (List ℕ)) (p : Plan) (j : List Entry) (e : Entry) (n m : ℕ) → Spells ls p j → n ≡ length j → length ls < 2 ^ 63 → m ≡ min (n + 1) (2 ^ 64 - 1) → m ≡ length (j ++ e ∷ [])
-counted ls p j e n m s is few told =
-    let less : length j < length ls = entries_fewer ls p j s in
+pub counted : {B : Type 0} (spelled : List ℕ → Option B) (ls : List (List ℕ)) (p : B) (j : List Entry) (e : Entry) (n m : ℕ) → Spells spelled ls p j → n ≡ length j → length ls < 2 ^ 63 → m ≡ min (n + 1) (2 ^ 64 - 1) → m ≡ length (j ++ e ∷ [])
+counted spelled ls p j e n m s is few told =
+    let less : length j < length ls = entries_fewer spelled ls p j s in
     let long : length (j ++ e ∷ []) ≡ length j + 1 = length-append j (e ∷ []) in
     omega arith
 
-pub first_wrong : (makes : Legality) (kept : (p : Plan) (e : Entry) (j : List Entry) → makes p (e ∷ j) → is_kept e.reply ≡ true) (ls : List (List ℕ)) (p : Plan) (j : List Entry) (l : List ℕ) (e : Entry) (n : ℕ) (r : Reply) (b : Bool) (x : Bounds) → Spells ls p j → Sound p → makes p (reverse j) → n ≡ length j → AreBounds x p → entry_of l ≡ Some e
-    → ((x : Reply) → makes p (joined (reverse j) e.lane e.call x) → r ≡ x) → is_told e.reply r ≡ false → b ≡ entry_beyond_by x.lanes x.lines p e → HasFault makes (ls ++ l ∷ []) n b
-first_wrong makes kept ls p j l e n r b x s sound legal is bounds reads only other names =
+pub first_wrong : {B : Type 0} (rules : Rulebook B) (kept : (p : B) (e : Entry) (j : List Entry) → rules.makes p (e ∷ j) → is_kept e.reply ≡ true) (ls : List (List ℕ)) (p : B) (j : List Entry) (l : List ℕ) (e : Entry) (n : ℕ) (r : Reply) (b : Bool) (x : Bounds) → Spells rules.spelled ls p j → rules.sound p → rules.makes p (reverse j) → n ≡ length j → AreBounds x (rules.lanes p) (rules.plan p) → entry_of l ≡ Some e
+    → ((x : Reply) → rules.makes p (joined (reverse j) e.lane e.call x) → r ≡ x) → is_told e.reply r ≡ false → b ≡ entry_beyond_by x.lanes x.lines (rules.plan p) e → HasFault rules (ls ++ l ∷ []) n b
+first_wrong rules kept ls p j l e n r b x s sound legal is bounds reads only other names =
     let all : take n (j ++ e ∷ []) ≡ j = ap (λ (k : ℕ). take k (j ++ e ∷ [])) is ∙ take-append_seam j (e ∷ []) in
     record {
-      plan = p;
+      basis = p;
       journal = j ++ e ∷ [];
       entry = e;
-      spelled = spelled_more ls p j l e s reads;
+      spelled = spelled_more rules.spelled ls p j l e s reads;
       sound = sound;
       first = record {
         there = ap (slice_get (j ++ e ∷ [])) is ∙ slice_get-last j e;
-        before = subst (λ (k : List Entry). makes p (reverse k)) (sym all) legal;
-        with_it = λ wrong. not_told makes kept p (reverse j) e r only other (subst (λ (k : List Entry). makes p (e ∷ reverse k)) all wrong);
+        before = subst (λ (k : List Entry). rules.makes p (reverse k)) (sym all) legal;
+        with_it = λ wrong. not_told rules kept p (reverse j) e r only other (subst (λ (k : List Entry). rules.makes p (e ∷ reverse k)) all wrong);
       };
-      names = ap (λ (k : ℕ). entry_beyond_by k (line_bound p) p e) (sym bounds.lanes) ∙ ap (λ (k : ℕ). entry_beyond_by x.lanes k p e) (sym bounds.lines) ∙ sym names;
+      names = ap (λ (k : ℕ). entry_beyond_by k (line_bound (rules.plan p)) (rules.plan p) e) (sym bounds.lanes) ∙ ap (λ (k : ℕ). entry_beyond_by x.lanes k (rules.plan p) e) (sym bounds.lines) ∙ sym names;
     }
 
 -- ---- the first line
 
-pub one_line : (l : List ℕ) (p : Plan) → plan_of l ≡ Some p → Spells (l ∷ []) p []
-one_line l p is = record { top = l; rest = []; lines_are = refl; plan = is; entries = refl }
+pub one_line : {B : Type 0} (spelled : List ℕ → Option B) (l : List ℕ) (p : B) → spelled l ≡ Some p → Spells spelled (l ∷ []) p []
+one_line spelled l p is = record { top = l; rest = []; lines_are = refl; basis = is; entries = refl }
 
-pub no_plan : (l : List ℕ) → plan_of l ≡ None → IsBad (l ∷ []) 1
-no_plan l other = record { top = l; rest = []; lines_are = refl; bad = rw other refl }
+pub no_basis : {B : Type 0} (spelled : List ℕ → Option B) (l : List ℕ) → spelled l ≡ None → IsBad spelled (l ∷ []) 1
+no_basis spelled l other = record { top = l; rest = []; lines_are = refl; bad = rw other refl }
+
+pub unsound_line : {B : Type 0} (rules : Rulebook B) (l : List ℕ) → SpellsUnsound rules l → IsBadPlan rules (l ∷ [])
+unsound_line rules l s = record { basis = s.basis; journal = []; spelled = one_line rules.spelled l s.basis s.spelled; unsound = s.unsound }
 
 -- ---- sound plans
 

@@ -4,17 +4,17 @@ use Rattle.std.proofs.lemmas.List.{length-take-le}
 use Rattle.std.specs.Prelude.{IfSome}
 use Rattle.outside.specs.Lists.{Adds, Tells}
 use Rattle.outside.specs.Told.{TapTold}
-use Rattle.journal_replay.specs.Legality.{Legality, Standing}
+use Rattle.journal_replay.specs.Legality.{Rulebook, Standing}
 use Rattle.journal_replay.specs.Fed.{Fed}
 use Rattle.journal_replay.specs.Streams.{IsRead}
-use Rattle.journal_replay.specs.Fronts.{JudgesInput}
+use Rattle.journal_replay.specs.Fronts.{JudgesInputBy}
 use Rattle.journal_replay.specs.declared.feeding.Auditor.{Auditor}
 use Rattle.journal_replay.specs.declared.verdict.Verdict.{Verdict}
 use Rattle.journal_replay.specs.declared.verdict.Verdict.TheVariants as verdict
 
-pub record SoFar {C : Type 0} (makes : Legality) (stands : Standing C) (a : Auditor C) (old new : TapTold) (reads taken : ℕ) : Type 0 where
+pub record SoFar {B C : Type 0} (rules : Rulebook B) (stands : Standing B C) (a : Auditor C) (old new : TapTold) (reads taken : ℕ) : Type 0 where
   pub bytes : List ℕ
-  pub fed : Fed true makes stands a bytes
+  pub fed : Fed true rules stands a bytes
   pub adds : Adds bytes old.taken new.taken
   pub taken_is : taken ≡ length bytes
   pub long : reads ≤ length bytes
@@ -35,9 +35,9 @@ adds_nothing old = λ zs told. subst (Tells old) (sym (append-nil zs)) told
 front_read : (n : ℕ) (into : List ℕ) → n ≤ length into → length (take n into) ≡ n
 front_read n into within = length-take-le n into within
 
-pub more_read : {C : Type 0} (makes : Legality) (stands : Standing C) (a b : Auditor C) (old mid new : TapTold) (reads taken : ℕ) (n : ℕ) (into : List ℕ) (s : SoFar makes stands a old mid reads taken) → 0 < n → n ≤ length into → Adds (take n into) mid.taken new.taken → Fed true makes stands b (s.bytes ++ take n into) → taken + n ≤ 268435456
-    → SoFar makes stands b old new (reads + 1) (taken + n)
-more_read makes stands a b old mid new reads taken n into s some within adds fed few =
+pub more_read : {B C : Type 0} (rules : Rulebook B) (stands : Standing B C) (a b : Auditor C) (old mid new : TapTold) (reads taken : ℕ) (n : ℕ) (into : List ℕ) (s : SoFar rules stands a old mid reads taken) → 0 < n → n ≤ length into → Adds (take n into) mid.taken new.taken → Fed true rules stands b (s.bytes ++ take n into) → taken + n ≤ 268435456
+    → SoFar rules stands b old new (reads + 1) (taken + n)
+more_read rules stands a b old mid new reads taken n into s some within adds fed few =
     let piece = take n into in
     let count : length piece ≡ n = front_read n into within in
     let is = s.taken_is in
@@ -52,8 +52,8 @@ more_read makes stands a b old mid new reads taken n into s some within adds fed
       few = omega arith;
     }
 
-pub much_read : {C : Type 0} (makes : Legality) (stands : Standing C) (a : Auditor C) (old mid new : TapTold) (reads taken : ℕ) (n : ℕ) (into : List ℕ) (s : SoFar makes stands a old mid reads taken) → n ≤ length into → Adds (take n into) mid.taken new.taken → 268435456 < taken + n → IsRead makes verdict.TooLong old new
-much_read makes stands a old mid new reads taken n into s within adds more =
+pub much_read : {B C : Type 0} (rules : Rulebook B) (stands : Standing B C) (a : Auditor C) (old mid new : TapTold) (reads taken : ℕ) (n : ℕ) (into : List ℕ) (s : SoFar rules stands a old mid reads taken) → n ≤ length into → Adds (take n into) mid.taken new.taken → 268435456 < taken + n → IsRead rules verdict.TooLong old new
+much_read rules stands a old mid new reads taken n into s within adds more =
     let piece = take n into in
     let count : length piece ≡ n = front_read n into within in
     let is = s.taken_is in
@@ -61,8 +61,8 @@ much_read makes stands a old mid new reads taken n into s within adds more =
     let much : 268435456 < length (s.bytes ++ piece) = omega arith in
     record { bytes = s.bytes ++ piece; taken = record { taken = adds_more s.bytes piece old.taken mid.taken new.taken s.adds adds; whole = inr much }; judged = much }
 
-pub all_read : {C : Type 0} (makes : Legality) (stands : Standing C) (a : Auditor C) (old mid new : TapTold) (reads taken : ℕ) (v : Verdict) (s : SoFar makes stands a old mid reads taken) → Adds [] mid.taken new.taken → IfSome new.ended (λ e. e ≡ true) → JudgesInput makes s.bytes v → IsRead makes v old new
-all_read makes stands a old mid new reads taken v s adds ended judged =
+pub all_read : {B C : Type 0} (rules : Rulebook B) (stands : Standing B C) (a : Auditor C) (old mid new : TapTold) (reads taken : ℕ) (v : Verdict) (s : SoFar rules stands a old mid reads taken) → Adds [] mid.taken new.taken → IfSome new.ended (λ e. e ≡ true) → JudgesInputBy rules s.bytes v → IsRead rules v old new
+all_read rules stands a old mid new reads taken v s adds ended judged =
     record {
       bytes = s.bytes;
       taken = record {

@@ -5,7 +5,7 @@ use Rattle.std.specs.Char.{is_ascii_digit}
 use Rattle.std.specs.List.{prefix_len, starts_with}
 use Rattle.journal_text.specs.Lines.{entry_of, lines_of, plan_of}
 use Rattle.journal_text.specs.Options.{◌>>=◌}
-use Rattle.journal_replay.specs.Legality.{Legality}
+use Rattle.journal_replay.specs.Legality.{Legality, Rulebook, of_plans}
 use Rattle.journal_replay.specs.Verdicts.{Says, limit}
 use Rattle.journal_replay.specs.declared.verdict.Verdict.{Verdict}
 use Rattle.journal_replay.specs.declared.verdict.Verdict.TheVariants as verdict
@@ -37,24 +37,28 @@ has_counts line = is_nothing (after_counts line)
 
 -- ---- the lines of a report
 
--- the line spells a plan or an entry
-abbrev pub is_journal_line : List ℕ → Bool
-is_journal_line line = is_some (plan_of line) || is_some (entry_of line)
+-- the line spells what a text may begin with, or an entry
+abbrev pub is_journal_line : {B : Type 0} → (List ℕ → Option B) → List ℕ → Bool
+is_journal_line spelled line = is_some (spelled line) || is_some (entry_of line)
 
 -- a line of a report but for the last one
-abbrev pub is_before_counts : List ℕ → Bool
-is_before_counts line = not (is_journal_line line) && not (has_counts line)
+abbrev pub is_before_counts : {B : Type 0} → (List ℕ → Option B) → List ℕ → Bool
+is_before_counts spelled line = not (is_journal_line spelled line) && not (has_counts line)
 
-abbrev pub ends_report : List (List ℕ) → Bool
-ends_report [] = false
-ends_report (line ∷ lines) = not (is_journal_line line) && has_counts line
+abbrev pub ends_report : {B : Type 0} → (List ℕ → Option B) → List (List ℕ) → Bool
+ends_report spelled [] = false
+ends_report spelled (line ∷ lines) = not (is_journal_line spelled line) && has_counts line
 
 -- How many lines the report has that stands before a text: those up to the first line with the
--- counts, if none of them spells a plan or an entry. Where it is 0, there is no report.
+-- counts, if none of them spells a basis or an entry. Where it is 0, there is no report.
+abbrev pub report_lines_by : {B : Type 0} → (List ℕ → Option B) → List (List ℕ) → ℕ
+report_lines_by spelled lines =
+    let n = prefix_len (is_before_counts spelled) lines in
+    if ends_report spelled (drop n lines) then n + 1 else 0
+
+-- before the text of a plan on its own berths
 abbrev pub report_lines : List (List ℕ) → ℕ
-report_lines lines =
-    let n = prefix_len is_before_counts lines in
-    if ends_report (drop n lines) then n + 1 else 0
+report_lines lines = report_lines_by plan_of lines
 
 -- ---- the verdict
 
@@ -64,13 +68,18 @@ shifted n (verdict.BadLine k) = verdict.BadLine (n + k)
 shifted n v = v
 
 -- of the lines behind these, a verdict says so
-pub record SaysBehind (makes : Legality) (n : ℕ) (lines : List (List ℕ)) (v : Verdict) : Type 0 where
+pub record SaysBehind {B : Type 0} (rules : Rulebook B) (n : ℕ) (lines : List (List ℕ))
+    (v : Verdict) : Type 0 where
   pub text : Verdict
-  pub says : Says makes (drop n lines) text
+  pub says : Says rules (drop n lines) text
   pub verdict_is : v ≡ shifted n text
 
 -- what a verdict says of bytes that may begin with a report
+abbrev pub JudgesInputBy : {B : Type 0} → Rulebook B → List ℕ → Verdict → Type 0
+JudgesInputBy rules bytes verdict.TooLong = limit < length bytes
+JudgesInputBy rules bytes v = (length bytes ≤ limit)
+    × SaysBehind rules (report_lines_by rules.spelled (lines_of bytes)) (lines_of bytes) v
+
+-- on the plan's own berths
 abbrev pub JudgesInput : Legality → List ℕ → Verdict → Type 0
-JudgesInput makes bytes verdict.TooLong = limit < length bytes
-JudgesInput makes bytes v = (length bytes ≤ limit)
-    × SaysBehind makes (report_lines (lines_of bytes)) (lines_of bytes) v
+JudgesInput makes bytes v = JudgesInputBy (of_plans makes) bytes v

@@ -4,8 +4,8 @@ use Rattle.outside.specs.Lists.{Adds, Gives}
 use Rattle.outside.specs.Told.{SinkTold, TapTold}
 use Rattle.outside.specs.declared.answers.Io.{Io}
 use Rattle.outside.specs.declared.answers.Io.TheVariants as io
-use Rattle.journal_replay.specs.Legality.{Legality}
-use Rattle.journal_replay.specs.Fronts.{JudgesInput}
+use Rattle.journal_replay.specs.Legality.{Legality, Rulebook, of_plans}
+use Rattle.journal_replay.specs.Fronts.{JudgesInputBy}
 use Rattle.journal_replay.specs.Verdicts.{limit}
 use Rattle.journal_replay.specs.declared.verdict.Verdict.{Verdict}
 use Rattle.journal_replay.specs.Words.{verdict_line, verdict_status}
@@ -17,10 +17,10 @@ pub record IsTaken (bytes : List ℕ) (old new : TapTold) : Type 0 where
 
 -- Of the bytes that were taken, the text behind the report is judged so, or where they begin with no
 -- report all of them.
-pub record IsRead (makes : Legality) (v : Verdict) (old new : TapTold) : Type 0 where
+pub record IsRead {B : Type 0} (rules : Rulebook B) (v : Verdict) (old new : TapTold) : Type 0 where
   pub bytes : List ℕ
   pub taken : IsTaken bytes old new
-  pub judged : JudgesInput makes bytes v
+  pub judged : JudgesInputBy rules bytes v
 
 -- the line was put and the status is the verdict's, or the sink failed
 abbrev pub EndsWith : Verdict → Io → ℕ → Type 0
@@ -33,9 +33,10 @@ pub record IsPut (v : Verdict) (before after : SinkTold) (status : ℕ) : Type 0
   pub status_is : EndsWith v end status
 
 -- what was taken was judged, and the line of its verdict was put
-pub record IsJudged (makes : Legality) (old new : TapTold) (before after : SinkTold) (status : ℕ) : Type 0 where
+pub record IsJudged {B : Type 0} (rules : Rulebook B) (old new : TapTold) (before after : SinkTold)
+    (status : ℕ) : Type 0 where
   pub verdict : Verdict
-  pub read : IsRead makes verdict old new
+  pub read : IsRead rules verdict old new
   pub told : IsPut verdict before after status
 
 -- memory ran out, or the tap failed, and nothing was put
@@ -43,7 +44,11 @@ pub record IsCutOff (before after : SinkTold) (status : ℕ) : Type 0 where
   pub status_is : (status ≡ 3) ⊎ (status ≡ 5)
   pub nothing : Adds [] before.contents after.contents
 
-abbrev pub Streamed : Legality → TapTold → TapTold → SinkTold → SinkTold
+abbrev pub StreamedBy : {B : Type 0} → Rulebook B → TapTold → TapTold → SinkTold → SinkTold
     → ℕ → Type 0
-Streamed makes old new before after status =
-    IsCutOff before after status ⊎ IsJudged makes old new before after status
+StreamedBy rules old new before after status =
+    IsCutOff before after status ⊎ IsJudged rules old new before after status
+
+-- on the plan's own berths
+abbrev pub Streamed : Legality → TapTold → TapTold → SinkTold → SinkTold → ℕ → Type 0
+Streamed makes old new before after status = StreamedBy (of_plans makes) old new before after status

@@ -2,7 +2,7 @@
 ghost use Rattle.std.specs.Prelude.{◌≡◌, ◌≤◌, IfOk, length};
 ghost use Rattle.journal_text.specs.Lines.{lines_of};
 ghost use Rattle.journal_replay.specs.Knows.{Knows};
-ghost use Rattle.journal_replay.specs.Verdicts.{Judges};
+ghost use Rattle.journal_replay.specs.Verdicts.{JudgesBy};
 ghost use Rattle.journal_replay.specs.declared.verdict.Verdict.{Verdict};
 
 use crate::feeding::Auditor;
@@ -20,8 +20,8 @@ const LIMIT: usize = 268_435_456;
 ///
 /// Returns `NoMemory` if memory runs out, which means nothing about the text.
 pub fn audit_with<C: Replayed>(alloc: Global, bytes: &[u8]) -> Result<Verdict, NoMemory>
-    ensures answer { IfOk result (Judges C.makes bytes.now) }
-    ensures only { IfOk result (λ v. (w : Verdict) → Judges C.makes bytes.now w → w ≡ v) }
+    ensures answer { IfOk result (JudgesBy C.rules bytes.now) }
+    ensures only { IfOk result (λ v. (w : Verdict) → JudgesBy C.rules bytes.now w → w ≡ v) }
 {
     if bytes.len() > LIMIT {
         return Ok(Verdict::TooLong);

@@ -1,18 +1,16 @@
 // The findings about the lines so far, and how the next line changes them.
 ghost use Rattle.std.specs.Prelude.{◌≡◌, ◌+◌, ◌<◌, ◌^◌, ◌++◌, ◌∷◌, [], ℕ, List, IfOk, Some, None, true, is_some, length, reverse};
 ghost use Rattle.run_plan.specs.Sound.{Sound};
-ghost use Rattle.journal_text.specs.Lines.{entry_of, plan_of};
-ghost use Rattle.journal_replay.specs.Knows.{IsBad, IsLegalSoFar, Knows};
-ghost use Rattle.journal_replay.specs.Spelled.{Spells};
+ghost use Rattle.journal_text.specs.Lines.{entry_of};
+ghost use Rattle.journal_replay.specs.Knows.{IsBegun, IsLegalSoFar, Knows};
 ghost use Rattle.journal_replay.specs.Verdicts.{HasFault, IsBadPlan, Says};
 
 use crate::beyond::{Bounds, bounds_of, is_entry_beyond};
-use crate::replayed::Replayed;
+use crate::replayed::{Begun, Replayed};
 use crate::same::is_told;
-use crate::sound::is_sound;
 use crate::verdict::Verdict;
 use exec_journal::{Entry, Plan};
-use journal_reading::{Misread, read_entry, read_plan};
+use journal_reading::{Misread, read_entry};
 use plain_values::NoMemory;
 use std::alloc::Global;
 
@@ -23,15 +21,15 @@ pub(crate) enum Found<C: Drop> {
     Nothing,
     /// This line was the first that doesn't spell what it should.
     Bad { line: u64 },
-    /// The lines spell a plan that isn't sound, and entries.
+    /// The lines spell a basis that isn't sound, and entries.
     Unsound,
-    /// The lines spell a sound plan and entries. The entry with this number is the first that the rules don't allow.
+    /// The lines spell a sound basis and entries. The entry with this number is the first that the rules don't allow.
     Wrong { entry: u64, beyond: bool },
     /// The lines spell a sound plan and entries, which are legal.
     Going(Going<C>),
 }
 
-/// A sound plan, the number of entries so far, and a core that was called as the entries say.
+/// The plan of a sound basis, the number of entries so far, and a core that was called as the entries say.
 #[derive(Drop)]
 pub(crate) struct Going<C: Drop> {
     core: C,
@@ -47,9 +45,9 @@ pub(crate) fn with_line<C: Replayed>(
     number: u64,
     line: &[u8],
 ) -> Result<Found<C>, NoMemory>
-    ensures { (ls : List (List ℕ)) → Knows C.makes C.stands found ls
+    ensures { (ls : List (List ℕ)) → Knows C.rules C.stands found ls
         → number ≡ length ls + 1 → length ls < 2 ^ 63
-        → IfOk result (λ f. Knows C.makes C.stands f (ls ++ line.now ∷ [])) }
+        → IfOk result (λ f. Knows C.rules C.stands f (ls ++ line.now ∷ [])) }
 {
     match found {
         Found::Nothing => first_line(alloc, line),
@@ -62,55 +60,29 @@ pub(crate) fn with_line<C: Replayed>(
 
 /// Begins with the first line of a text.
 pub(crate) fn first_line<C: Replayed>(alloc: Global, line: &[u8]) -> Result<Found<C>, NoMemory>
-    ensures { IfOk result (λ f. Knows C.makes C.stands f (line.now ∷ [])) }
+    ensures { IfOk result (λ f. Knows C.rules C.stands f (line.now ∷ [])) }
 {
-    match read_plan(alloc, line) {
-        Ok(plan) => begun(alloc, plan, line),
-        Err(Misread::Otherwise) => Ok(Found::Bad { line: 1 }),
-        Err(Misread::NoMemory) => Err(NoMemory),
+    let start = C::begin(alloc, line)?;
+    match start {
+        Begun::Misread => Ok(Found::Bad { line: 1 }),
+        Begun::Unsound => Ok(Found::Unsound),
+        Begun::Going { core, plan, lanes } => Ok(begun(core, plan, lanes)),
     }
 }
 
-// Begins the replay of the plan that the line spells.
-fn begun<C: Replayed>(alloc: Global, plan: Plan, line: &[u8]) -> Result<Found<C>, NoMemory>
-    requires { plan_of line.now ≡ Some plan }
-    ensures { IfOk result (λ f. Knows C.makes C.stands f (line.now ∷ [])) }
+// Begins the replay of a core that hasn't been called yet.
+fn begun<C: Replayed>(core: C, plan: Plan, lanes: u32) -> Found<C>
+    requires { Sound plan }
+    ensures { (line : List ℕ) → IsBegun C.rules C.stands line core plan lanes
+        → Knows C.rules C.stands result (line ∷ []) }
 {
-    if !is_sound(&plan) {
-        return Ok(Found::Unsound);
-    }
-    let bounds = bounds_of(&plan);
-    let twin = read_again(alloc, line)?;
-    let core = C::begin(alloc, twin)?;
-    Ok(Found::Going(Going {
+    let bounds = bounds_of(&plan, lanes);
+    Found::Going(Going {
         core,
         plan,
         bounds,
         entries: 0,
-    }))
-}
-
-// Returns the plan of a line that spells one.
-fn read_again(alloc: Global, line: &[u8]) -> Result<Plan, NoMemory>
-    requires { is_some (plan_of line.now) ≡ true }
-    ensures { IfOk result (λ p. plan_of line.now ≡ Some p) }
-{
-    match read_plan(alloc, line) {
-        Ok(plan) => Ok(plan),
-        Err(Misread::Otherwise) => unreachable!(),
-        Err(Misread::NoMemory) => Err(NoMemory),
-    }
-}
-
-/// Returns true if the line spells a plan.
-pub(crate) fn spells_plan(alloc: Global, line: &[u8]) -> Result<bool, NoMemory>
-    ensures { IfOk result (λ b. b ≡ is_some (plan_of line.now)) }
-{
-    match read_plan(alloc, line) {
-        Ok(_) => Ok(true),
-        Err(Misread::Otherwise) => Ok(false),
-        Err(Misread::NoMemory) => Err(NoMemory),
-    }
+    })
 }
 
 /// Returns true if the line spells an entry.
@@ -125,8 +97,8 @@ pub(crate) fn spells_entry(alloc: Global, line: &[u8]) -> Result<bool, NoMemory>
 }
 
 fn unsound_line<C: Replayed>(alloc: Global, number: u64, line: &[u8]) -> Result<Found<C>, NoMemory>
-    ensures { (ls : List (List ℕ)) → IsBadPlan ls → number ≡ length ls + 1
-        → IfOk result (λ f. Knows C.makes C.stands f (ls ++ line.now ∷ [])) }
+    ensures { (ls : List (List ℕ)) → IsBadPlan C.rules ls → number ≡ length ls + 1
+        → IfOk result (λ f. Knows C.rules C.stands f (ls ++ line.now ∷ [])) }
 {
     if spells_entry(alloc, line)? {
         Ok(Found::Unsound)
@@ -142,8 +114,8 @@ fn wrong_line<C: Replayed>(
     number: u64,
     line: &[u8],
 ) -> Result<Found<C>, NoMemory>
-    ensures { (ls : List (List ℕ)) → HasFault C.makes ls entry beyond → number ≡ length ls + 1
-        → IfOk result (λ f. Knows C.makes C.stands f (ls ++ line.now ∷ [])) }
+    ensures { (ls : List (List ℕ)) → HasFault C.rules ls entry beyond → number ≡ length ls + 1
+        → IfOk result (λ f. Knows C.rules C.stands f (ls ++ line.now ∷ [])) }
 {
     if spells_entry(alloc, line)? {
         Ok(Found::Wrong { entry, beyond })
@@ -158,9 +130,9 @@ fn next_line<C: Replayed>(
     number: u64,
     line: &[u8],
 ) -> Result<Found<C>, NoMemory>
-    ensures { (ls : List (List ℕ)) → IsLegalSoFar C.makes C.stands ls going
+    ensures { (ls : List (List ℕ)) → IsLegalSoFar C.rules C.stands ls going
         → number ≡ length ls + 1 → length ls < 2 ^ 63
-        → IfOk result (λ f. Knows C.makes C.stands f (ls ++ line.now ∷ [])) }
+        → IfOk result (λ f. Knows C.rules C.stands f (ls ++ line.now ∷ [])) }
 {
     match read_entry(alloc, line) {
         Ok(entry) => Ok(judged(going, entry)),
@@ -171,9 +143,9 @@ fn next_line<C: Replayed>(
 
 // Calls the core as the entry says, and compares its reply with the entry's.
 fn judged<C: Replayed>(going: Going<C>, entry: Entry) -> Found<C>
-    ensures { (ls : List (List ℕ)) (line : List ℕ) → IsLegalSoFar C.makes C.stands ls going
+    ensures { (ls : List (List ℕ)) (line : List ℕ) → IsLegalSoFar C.rules C.stands ls going
         → entry_of line ≡ Some entry → length ls < 2 ^ 63
-        → Knows C.makes C.stands result (ls ++ line ∷ []) }
+        → Knows C.rules C.stands result (ls ++ line ∷ []) }
 {
     let Going {
         core,
@@ -200,7 +172,7 @@ fn judged<C: Replayed>(going: Going<C>, entry: Entry) -> Found<C>
 
 /// Returns the verdict on these lines.
 pub(crate) fn verdict_of<C: Replayed>(found: Found<C>) -> Verdict
-    ensures { (ls : List (List ℕ)) → Knows C.makes C.stands found ls → Says C.makes ls result }
+    ensures { (ls : List (List ℕ)) → Knows C.rules C.stands found ls → Says C.rules ls result }
 {
     match found {
         Found::Nothing => Verdict::BadLine { line: 1 },

@@ -14,7 +14,7 @@ use std::mem;
 
 /// The findings about the bytes so far.
 #[derive(Drop)]
-pub(crate) struct Auditor<C: Replayed> {
+pub(crate) struct Auditor<C: Drop> {
     alloc: Global,
     stage: Stage<C>,
     // The number of the unfinished line, from 1.
@@ -25,7 +25,7 @@ pub(crate) struct Auditor<C: Replayed> {
 impl<C: Replayed> Auditor<C> {
     /// Returns an auditor of a text, which has received nothing.
     pub(crate) fn of_text(alloc: Global) -> Auditor<C>
-        ensures { Fed false C.makes C.stands result [] }
+        ensures { Fed false C.rules C.stands result [] }
     {
         Auditor {
             alloc,
@@ -40,7 +40,7 @@ impl<C: Replayed> Auditor<C> {
 
     /// Returns an auditor of an input that may begin with a report. It has received nothing.
     pub(crate) fn of_input(alloc: Global) -> Auditor<C>
-        ensures { Fed true C.makes C.stands result [] }
+        ensures { Fed true C.rules C.stands result [] }
     {
         Auditor {
             alloc,
@@ -52,9 +52,9 @@ impl<C: Replayed> Auditor<C> {
 
     /// Takes the next bytes. After a lack of memory the auditor must not be used.
     pub(crate) fn feed(&mut self, piece: &[u8]) -> Result<(), NoMemory>
-        ensures { (skips : Bool) (bytes : List ℕ) → Fed skips C.makes C.stands self.old bytes
+        ensures { (skips : Bool) (bytes : List ℕ) → Fed skips C.rules C.stands self.old bytes
             → length bytes + length piece.now < 2 ^ 63
-            → OnOk result (Fed skips C.makes C.stands self.new (bytes ++ piece.now)) }
+            → OnOk result (Fed skips C.rules C.stands self.new (bytes ++ piece.now)) }
     {
         let mut start = 0;
         for (at, byte) in piece.iter().enumerate() {
@@ -70,9 +70,9 @@ impl<C: Replayed> Auditor<C> {
     // Ends the unfinished line with these bytes. A line feed follows them.
     fn end_line(&mut self, rest: &[u8]) -> Result<(), NoMemory>
         ensures { (skips : Bool) (bytes : List ℕ)
-            → FedSo skips C.makes C.stands self.old.stage self.old.number
+            → FedSo skips C.rules C.stands self.old.stage self.old.number
             (self.old.begun.items ++ rest.now) bytes → length bytes < 2 ^ 63
-            → OnOk result (Fed skips C.makes C.stands self.new (bytes ++ 10 ∷ [])) }
+            → OnOk result (Fed skips C.rules C.stands self.new (bytes ++ 10 ∷ [])) }
     {
         self.begun.extend_from_slice(rest)?;
         let stage = mem::replace(&mut self.stage, Stage::Report);
@@ -84,9 +84,9 @@ impl<C: Replayed> Auditor<C> {
 
     /// Returns the verdict on all bytes so far.
     pub(crate) fn verdict(self) -> Result<Verdict, NoMemory>
-        ensures { (skips : Bool) (bytes : List ℕ) → Fed skips C.makes C.stands self bytes
+        ensures { (skips : Bool) (bytes : List ℕ) → Fed skips C.rules C.stands self bytes
             → length bytes ≤ 268435456
-            → IfOk result (SaysOn skips C.makes (lines_of bytes)) }
+            → IfOk result (SaysOn skips C.rules (lines_of bytes)) }
     {
         let Auditor {
             alloc,

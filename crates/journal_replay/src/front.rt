@@ -5,7 +5,7 @@ ghost use Rattle.journal_replay.specs.Fronts.{after_count, after_counts, digits,
 ghost use Rattle.journal_replay.specs.Knows.{Knows};
 ghost use Rattle.journal_replay.specs.Staged.{IsReport, KnowsStage, SaysOn, capped};
 
-use crate::auditor::{Found, first_line, spells_entry, spells_plan, verdict_of, with_line};
+use crate::auditor::{Found, first_line, spells_entry, verdict_of, with_line};
 use crate::replayed::Replayed;
 use crate::verdict::Verdict;
 use plain_values::NoMemory;
@@ -27,9 +27,9 @@ pub(crate) fn stage_with<C: Replayed>(
     number: u64,
     line: &[u8],
 ) -> Result<Stage<C>, NoMemory>
-    ensures { (skips : Bool) (ls : List (List ℕ)) → KnowsStage skips C.makes C.stands stage ls
+    ensures { (skips : Bool) (ls : List (List ℕ)) → KnowsStage skips C.rules C.stands stage ls
         → number ≡ length ls + 1 → length ls < 2 ^ 63
-        → IfOk result (λ s. KnowsStage skips C.makes C.stands s (ls ++ line.now ∷ [])) }
+        → IfOk result (λ s. KnowsStage skips C.rules C.stands s (ls ++ line.now ∷ [])) }
 {
     match stage {
         Stage::Report => report_with(alloc, number, line),
@@ -43,11 +43,11 @@ pub(crate) fn stage_with<C: Replayed>(
 // Adds a line behind lines that may all be of a report.
 fn report_with<C: Replayed>(alloc: Global, number: u64, line: &[u8]) -> Result<Stage<C>, NoMemory>
     ensures { (skips : Bool) (ls : List (List ℕ))
-        → IsReport skips ls
+        → IsReport C.rules.spelled skips ls
         → number ≡ length ls + 1 → length ls < 2 ^ 63
-        → IfOk result (λ s. KnowsStage skips C.makes C.stands s (ls ++ line.now ∷ [])) }
+        → IfOk result (λ s. KnowsStage skips C.rules C.stands s (ls ++ line.now ∷ [])) }
 {
-    if is_journal_line(alloc, line)? {
+    if is_journal_line::<C>(alloc, line)? {
         let found = no_report(alloc, number, line)?;
         return Ok(Stage::Text { skipped: 0, found });
     }
@@ -60,11 +60,11 @@ fn report_with<C: Replayed>(alloc: Global, number: u64, line: &[u8]) -> Result<S
     Ok(Stage::Report)
 }
 
-// Returns what the lines say as a text, if this one spells a plan or an entry, and no line before it does.
+// Returns what the lines say as a text, if this one spells a basis or an entry, and no line before it does.
 fn no_report<C: Replayed>(alloc: Global, number: u64, line: &[u8]) -> Result<Found<C>, NoMemory>
-    ensures { (ls : List (List ℕ)) → list_all is_before_counts ls ≡ true
+    ensures { (ls : List (List ℕ)) → list_all (is_before_counts C.rules.spelled) ls ≡ true
         → number ≡ length ls + 1
-        → IfOk result (λ f. Knows C.makes C.stands f (ls ++ line.now ∷ [])) }
+        → IfOk result (λ f. Knows C.rules C.stands f (ls ++ line.now ∷ [])) }
 {
     if number == 1 {
         first_line(alloc, line)
@@ -73,10 +73,10 @@ fn no_report<C: Replayed>(alloc: Global, number: u64, line: &[u8]) -> Result<Fou
     }
 }
 
-fn is_journal_line(alloc: Global, line: &[u8]) -> Result<bool, NoMemory>
-    ensures { IfOk result (λ b. b ≡ is_journal_line line.now) }
+fn is_journal_line<C: Replayed>(alloc: Global, line: &[u8]) -> Result<bool, NoMemory>
+    ensures { IfOk result (λ b. b ≡ is_journal_line C.rules.spelled line.now) }
 {
-    Ok(spells_plan(alloc, line)? || spells_entry(alloc, line)?)
+    Ok(C::spells(alloc, line)? || spells_entry(alloc, line)?)
 }
 
 // Returns true if the line is the last one of a report.
@@ -129,8 +129,8 @@ fn digits(text: &[u8]) -> usize
 
 /// Returns the verdict on these lines. A bad line is counted from the first line of all.
 pub(crate) fn verdict_on<C: Replayed>(stage: Stage<C>) -> Verdict
-    ensures { (skips : Bool) (ls : List (List ℕ)) → KnowsStage skips C.makes C.stands stage ls
-        → length ls < 2 ^ 63 → SaysOn skips C.makes ls result }
+    ensures { (skips : Bool) (ls : List (List ℕ)) → KnowsStage skips C.rules C.stands stage ls
+        → length ls < 2 ^ 63 → SaysOn skips C.rules ls result }
 {
     match stage {
         Stage::Report => Verdict::BadLine { line: 1 },

@@ -14,6 +14,7 @@ mod streaming;
 mod verdict;
 
 pub use auditing::audit_with;
-pub use replayed::Replayed;
+pub use replayed::{Begun, Replayed};
+pub use sound::is_sound;
 pub use streaming::check_stream_with;
 pub use verdict::Verdict;

@@ -1,7 +1,7 @@
 // Checks if a plan is sound.
-ghost use Rattle.std.specs.Prelude.{◌≡◌, ◌≤◌, ◌+◌, ◌<◌, ◌^◌, ◌&&◌, nat_le, sum_by, slice_get, length};
+ghost use Rattle.std.specs.Prelude.{◌≡◌, ◌≤◌, ◌↔◌, IsTrue, ◌+◌, ◌<◌, ◌^◌, ◌&&◌, nat_le, sum_by, slice_get, length};
 ghost use Rattle.std.specs.List.{list_all};
-ghost use Rattle.run_plan.specs.Sound.{are_different, are_sound_from, has_branches, is_earlier, is_sound_action, is_sound_group, names_group};
+ghost use Rattle.run_plan.specs.Sound.{Sound, are_different, are_sound_from, has_branches, is_earlier, is_sound_action, is_sound_group, names_group};
 ghost use Rattle.journal_replay.specs.Plans.{are_sound_groups, has_limits, is_sound};
 ghost use Rattle.run_plan.specs.Limits.{most_berths};
 
@@ -9,7 +9,13 @@ use exec_journal::{Group, Kind, Maker, Plan, PlanAction};
 use run_plan::{MOST_ACTIONS, MOST_ATTEMPTS, MOST_BERTHS};
 
 /// Returns true if the plan meets all that is required of one.
-pub(crate) fn is_sound(plan: &Plan) -> bool
+pub fn is_sound(plan: &Plan) -> bool
+    ensures { IsTrue result ↔ Sound plan.now }
+{
+    meets_all(plan)
+}
+
+fn meets_all(plan: &Plan) -> bool
     ensures { result ≡ is_sound plan.now }
 {
     has_limits(plan)

@@ -1,7 +1,7 @@
 // An input that comes through a pipe, and the line with the verdict on it.
 ghost use Rattle.std.specs.Prelude.{◌≡◌, ◌≤◌, IfOk, Err, string_bytes};
 ghost use Rattle.outside.specs.Causes.{Counts};
-ghost use Rattle.journal_replay.specs.Streams.{IsPut, IsRead, Streamed};
+ghost use Rattle.journal_replay.specs.Streams.{IsPut, IsRead, StreamedBy};
 ghost use Rattle.journal_replay.specs.Words.{verdict_line, verdict_status};
 ghost use Rattle.journal_replay.specs.declared.streaming.Broke.TheVariants as broke;
 
@@ -43,7 +43,7 @@ pub fn check_stream_with<C: Replayed, T: Tap, O: Sink>(
     input: &mut T,
     out: &mut O,
 ) -> u8
-    ensures streamed { Streamed C.makes (T.told input.old) (T.told input.new)
+    ensures streamed { StreamedBy C.rules (T.told input.old) (T.told input.new)
         (O.told out.old) (O.told out.new) result }
     ensures tap { Counts (T.told input.old).faults (T.told input.new).faults (result ≡ 5) }
     ensures sink { Counts (O.told out.old).faults (O.told out.new).faults (result ≡ 6) }
@@ -61,7 +61,7 @@ pub fn check_stream_with<C: Replayed, T: Tap, O: Sink>(
 
 // Judges all bytes, or more than the limit.
 fn read_all<C: Replayed, T: Tap>(alloc: Global, input: &mut T) -> Result<Verdict, Broke>
-    ensures read { IfOk result (λ v. IsRead C.makes v (T.told input.old) (T.told input.new)) }
+    ensures read { IfOk result (λ v. IsRead C.rules v (T.told input.old) (T.told input.new)) }
     ensures count { Counts (T.told input.old).faults (T.told input.new).faults
         (result ≡ Err broke.TapFailed) }
 {

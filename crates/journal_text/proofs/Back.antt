@@ -1,5 +1,5 @@
 -- What was written is read back.
-use Rattle.std.proofs.Common.{◌≡◌, ℕ, ◌<◌, ◌^◌, ℤ, pos, negsuc, List, [], ◌∷◌, map, Option, Some, None, refl, ap, ◌∙◌, arith}
+use Rattle.std.proofs.Common.{◌≡◌, ℕ, zero, suc, ◌<◌, ◌^◌, ℤ, pos, negsuc, List, [], ◌∷◌, map, true, Option, Some, None, refl, ap, ◌∙◌, arith}
 use Rattle.std.proofs.lemmas.Bool.{lt-ltb}
 use Rattle.serde_json.specs.Data.{Data, string}
 use Rattle.serde_json.specs.View.{items_of}
@@ -10,6 +10,10 @@ use Rattle.run_plan.specs.declared.plan.Group.{Group}
 use Rattle.run_plan.specs.declared.plan.Maker.{Maker}
 use Rattle.run_plan.specs.declared.plan.Plan.{Plan}
 use Rattle.run_plan.specs.declared.plan.PlanAction.{PlanAction}
+use Rattle.placed_rules.specs.declared.placed.Placed.{Placed}
+use Rattle.placed_rules.specs.declared.placed.Seating.{Seating}
+use Rattle.placed_rules.specs.declared.placed.Seating.TheVariants.{Own, Pools}
+use Rattle.placed_rules.specs.declared.pools.SharedPool.{SharedPool}
 use Rattle.exec_journal.specs.Entry.{Entry}
 use Rattle.exec_journal.specs.declared.call.Answer.{Answer}
 use Rattle.exec_journal.specs.declared.call.NamedFile.{NamedFile}
@@ -39,8 +43,9 @@ use Rattle.exec_journal.specs.declared.reply.StrayWhy.{StrayWhy}
 use Rattle.exec_journal.specs.declared.reply.StrayWhy.TheVariants as stray
 use Rattle.exec_journal.specs.declared.reply.BreachWhy.{BreachWhy}
 use Rattle.exec_journal.specs.declared.reply.BreachWhy.TheVariants as breach
-use Rattle.journal_text.specs.Fits.{AnswerFits, CallFits, CommitEndFits, Each, EntryFits, FileFits, FoundFits, GroupFits, IfCount, IsCount, IsSigned, MakerFits, PlanActionFits, PlanFits, ReplyFits, WantedFits}
+use Rattle.journal_text.specs.Fits.{AnswerFits, CallFits, CommitEndFits, Each, EntryFits, FileFits, FoundFits, GroupFits, IfCount, IsCount, IsSigned, MakerFits, PlacedFits, PlanActionFits, PlanFits, PoolFits, ReplyFits, SeatingFits, WantedFits}
 use Rattle.journal_text.specs.Options.{each}
+use Rattle.journal_text.specs.Placed.{has_row, placed_data, placed_in, pool_data, pool_in, seating_data, seating_in, ticks_data, ticks_in}
 use Rattle.journal_text.specs.Reading.{answer_in, call_in, commit_end_in, entry_in, file_in, found_in, group_in, maker_in, plan_action_in, plan_in, reply_in, wanted_in}
 use Rattle.journal_text.specs.Values.{content_data, content_in, count_data, count_in, datas, decoded, list_in, maybe_data, maybe_in, row_data, signed_data, signed_in, text_in}
 use Rattle.journal_text.specs.Words.{branch_data, branch_in, breach_data, breach_in, how_ended_data, how_ended_in, kind_data, kind_in, started_data, started_in, stray_data, stray_in, why_data, why_in, written_data, written_in}
@@ -143,6 +148,23 @@ group_back g p = rw (kind_back g.kind, count_back g.berths p.berths) refl
 
 pub plan_back : (x : Plan) → PlanFits x → plan_in (plan_data x) ≡ Some x
 plan_back x p = rw (list_back plan_action_in plan_action_data PlanActionFits action_back x.actions p.actions, list_back group_in group_data GroupFits group_back x.groups p.groups, count_back x.limit p.limit) refl
+
+-- ---- the plan on its berths
+
+pool_back : (x : SharedPool) → PoolFits x → pool_in (pool_data x) ≡ Some x
+pool_back x p = rw (list_back count_in count_data IsCount count_back x.groups p.groups, count_back x.berths p.berths) refl
+
+seating_back : (x : Seating) → SeatingFits x → seating_in (seating_data x) ≡ Some x
+seating_back Own p = refl
+seating_back (Pools pools instances) p = rw (list_back pool_in pool_data PoolFits pool_back pools p.0, count_back instances p.1) refl
+
+ticks_back : (s : Seating) (ticks : Option ℕ) → IfCount ticks → has_row s ticks ≡ true → (ticks ≡ Some 0 → ⊥) → ticks_in s (ticks_data ticks) ≡ Some ticks
+ticks_back s None l row some = rw row refl
+ticks_back s (Some zero) l row some = absurd (some refl)
+ticks_back s (Some (suc n)) l row some = rw (count_back (suc n) l, row) refl
+
+pub placed_back : (x : Placed) → PlacedFits x → has_row x.seating x.ticks ≡ true → (x.ticks ≡ Some 0 → ⊥) → placed_in (placed_data x) ≡ Some x
+placed_back x p row some = rw (plan_back x.plan p.plan, seating_back x.seating p.seating, ticks_back x.seating x.ticks p.ticks row some) refl
 
 -- ---- calls
 

@@ -1,5 +1,5 @@
 -- The written lines of the plan and of entries: one line each, that spells it.
-use Rattle.std.proofs.Common.{◌≡◌, ℕ, suc, ◌+◌, ◌<◌, List, [], ◌∷◌, ◌++◌, drop, length, get_or, true, Option, Some, Result, Ok, Err, refl, sym, ap, subst, ◌∙◌, append_assoc}
+use Rattle.std.proofs.Common.{◌≡◌, ℕ, suc, ◌+◌, ◌<◌, List, [], ◌∷◌, ◌++◌, drop, length, get_or, true, false, arith, Option, Some, None, Result, Ok, Err, refl, sym, ap, subst, ◌∙◌, append_assoc}
 use Rattle.std.specs.Prelude.{IfOk, OnOk}
 use Rattle.std.specs.List.{flat_map}
 use Rattle.std.specs.Str.{IsUtf8, is_utf8}
@@ -14,6 +14,10 @@ use Rattle.run_plan.specs.declared.plan.Group.{Group}
 use Rattle.run_plan.specs.declared.plan.Maker.{Maker}
 use Rattle.run_plan.specs.declared.plan.Plan.{Plan}
 use Rattle.run_plan.specs.declared.plan.PlanAction.{PlanAction}
+use Rattle.placed_rules.specs.declared.placed.Placed.{Placed}
+use Rattle.placed_rules.specs.declared.placed.Seating.{Seating}
+use Rattle.placed_rules.specs.declared.placed.Seating.TheVariants.{Own, Pools}
+use Rattle.placed_rules.specs.declared.pools.SharedPool.{SharedPool}
 use Rattle.exec_journal.specs.Entry.{Entry}
 use Rattle.exec_journal.specs.declared.call.Answer.{Answer}
 use Rattle.exec_journal.specs.declared.call.NamedFile.{NamedFile}
@@ -27,14 +31,16 @@ use Rattle.exec_journal.specs.declared.call.Wanted.{Wanted}
 use Rattle.exec_journal.specs.declared.call.Wanted.TheVariants as look
 use Rattle.exec_journal.specs.declared.reply.Reply.{Reply}
 use Rattle.exec_journal.specs.declared.reply.Reply.TheVariants as reply
-use Rattle.journal_text.specs.Fits.{AnswerFits, CallFits, CommitEndFits, Each, EntryFits, FileFits, FoundFits, GroupFits, MakerFits, PlanActionFits, PlanFits, ReplyFits, WantedFits}
-use Rattle.journal_text.specs.Lines.{IsWrittenEntry, IsWrittenPlan, entry_text, json_in, plan_text}
+use Rattle.journal_text.specs.Fits.{AnswerFits, CallFits, CommitEndFits, Each, EntryFits, FileFits, FoundFits, GroupFits, IfCount, IsCount, MakerFits, PlacedFits, PlanActionFits, PlanFits, PoolFits, ReplyFits, SeatingFits, WantedFits}
+use Rattle.journal_text.specs.Lines.{IsOneLine, IsWrittenEntry, IsWrittenPlaced, IsWrittenPlan, entry_text, first_text, json_in, placed_of, placed_row_of, placed_row_text, plan_of, plan_text}
+use Rattle.placed_rules.specs.Placed.{on_own, placed}
 use Rattle.journal_text.specs.Options.{◌>>=◌}
+use Rattle.journal_text.specs.Placed.{alone, has_row, or_else, placed_data, placed_in, pool_data, seating_data, ticks_data}
 use Rattle.journal_text.specs.Reading.{entry_in, plan_in}
-use Rattle.journal_text.specs.Values.{content_data}
+use Rattle.journal_text.specs.Values.{content_data, count_data}
 use Rattle.journal_text.specs.Words.{word_data}
 use Rattle.journal_text.specs.Writing.{answer_data, call_data, commit_end_data, entry_data, file_data, found_data, group_data, maker_data, plan_action_data, plan_data, reply_data, wanted_data}
-use Rattle.journal_text.proofs.Back.{entry_back, plan_back}
+use Rattle.journal_text.proofs.Back.{entry_back, placed_back, plan_back}
 use Rattle.journal_text.proofs.Plain.{IsPlain, content_plain, count_plain, each_plain, flag_plain, maybe_plain, row_plain, signed_plain, text_plain, texts_plain}
 
 -- ---- plain
@@ -62,6 +68,20 @@ plan_plain x p = row_plain 4 (
   row_plain 3 (each_plain 3 PlanActionFits plan_action_data action_plain x.actions p.actions),
   (row_plain 3 (each_plain 3 GroupFits group_data group_plain x.groups p.groups), (count_plain 4 x.limit p.limit, tt)),
 )
+
+pool_plain : (x : SharedPool) → PoolFits x → IsPlain 3 (pool_data x)
+pool_plain x p = row_plain 2 (row_plain 1 (each_plain 1 IsCount count_data (count_plain 1) x.groups p.groups), (count_plain 2 x.berths p.berths, tt))
+
+seating_plain : (x : Seating) → SeatingFits x → IsPlain 5 (seating_data x)
+seating_plain Own p = word_plain 4 _
+seating_plain (Pools pools instances) p = row_plain 4 (text_plain 4 _, (row_plain 3 (each_plain 3 PoolFits pool_data pool_plain pools p.0), (count_plain 4 instances p.1, tt)))
+
+ticks_plain : (n : ℕ) (ticks : Option ℕ) → IfCount ticks → IsPlain n (ticks_data ticks)
+ticks_plain n None p = count_plain n 0 (omega arith)
+ticks_plain n (Some m) p = count_plain n m p
+
+pub placed_plain : (x : Placed) → PlacedFits x → IsPlain 6 (placed_data x)
+placed_plain x p = row_plain 5 (text_plain 5 _, (plan_plain x.plan p.plan, (seating_plain x.seating p.seating, (ticks_plain 5 x.ticks p.ticks, tt))))
 
 file_plain : (f : NamedFile) → FileFits f → IsPlain 2 (file_data f)
 file_plain f p = row_plain 1 (text_plain 1 f.path, (content_plain 1 f.content, tt))
@@ -145,6 +165,42 @@ entry_plain e p = row_plain 5 (count_plain 5 e.lane p.lane, (call_plain e.call p
 pub plan_written : (x : Plan) → PlanFits x → json_in (compact_text (plan_data x)) ≡ Some (plan_data x) → IsWrittenPlan x
 unfolding plan_text
 plan_written x p again = record { one_line = (plan_plain x p).lined; again = ap (λ (o : Option Data). o >>= plan_in) again ∙ plan_back x p }
+
+-- the row of a plan on its berths spells no plan, since it begins with a word
+row_written : (x : Placed) → PlacedFits x → has_row x.seating x.ticks ≡ true → (x.ticks ≡ Some 0 → ⊥) → json_in (compact_text (placed_data x)) ≡ Some (placed_data x)
+    → placed_of (compact_text (placed_data x)) ≡ Some x
+row_written x p row some again =
+    let no_plan : plan_of (compact_text (placed_data x)) ≡ None = ap (λ (o : Option Data). o >>= plan_in) again in
+    let spelled : placed_row_of (compact_text (placed_data x)) ≡ Some x = ap (λ (o : Option Data). o >>= placed_in) again ∙ placed_back x p row some in
+    ap (λ (o : Option Plan). or_else (alone o) (placed_row_of (compact_text (placed_data x)))) no_plan ∙ spelled
+
+pub by_row : (x : Placed) → has_row x.seating x.ticks ≡ true → first_text x ≡ placed_row_text x
+by_row x row = rw row refl
+
+pub by_plan : (x : Placed) → has_row x.seating x.ticks ≡ false → first_text x ≡ plan_text x.plan
+by_plan x no' = rw no' refl
+
+written_so : (x : Placed) (text : List ℕ) → first_text x ≡ text → IsOneLine text → placed_of text ≡ Some x → IsWrittenPlaced x
+written_so x text is one again = record { one_line = subst IsOneLine (sym is) one; again = ap placed_of is ∙ again }
+
+pub placed_written : (x : Placed) → PlacedFits x → has_row x.seating x.ticks ≡ true → (x.ticks ≡ Some 0 → ⊥) → json_in (compact_text (placed_data x)) ≡ Some (placed_data x) → IsWrittenPlaced x
+unfolding placed_row_text
+placed_written x p row some again = written_so x (compact_text (placed_data x)) (by_row x row) (placed_plain x p).lined (row_written x p row some again)
+
+-- own berths without Ticks are told apart by nothing else
+is_alone : (p : Plan) (s : Seating) (ticks : Option ℕ) → has_row s ticks ≡ false → on_own p None ≡ placed p s ticks
+is_alone p Own None e = refl
+is_alone p Own (Some n) e = absurd (cc)
+is_alone p (Pools pools instances) ticks e = absurd (cc)
+
+pub plan_is_written : (x : Placed) → has_row x.seating x.ticks ≡ false → IsWrittenPlan x.plan → IsWrittenPlaced x
+plan_is_written x no' w =
+    let spelled : placed_of (plan_text x.plan) ≡ Some (on_own x.plan None) = ap (λ (o : Option Plan). or_else (alone o) (placed_row_of (plan_text x.plan))) w.again in
+    written_so x (plan_text x.plan) (by_plan x no') w.one_line (spelled ∙ ap Some (is_alone x.plan x.seating x.ticks no'))
+
+pub placed_text_is : (x : Placed) (d : Data) → d ≡ placed_data x → compact_text d ≡ placed_row_text x
+unfolding placed_row_text
+placed_text_is x d is = ap compact_text is
 
 pub entry_written : (e : Entry) → EntryFits e → json_in (compact_text (entry_data e)) ≡ Some (entry_data e) → IsWrittenEntry e
 unfolding entry_text

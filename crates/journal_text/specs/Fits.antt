@@ -5,6 +5,10 @@ use Rattle.run_plan.specs.declared.plan.Group.{Group}
 use Rattle.run_plan.specs.declared.plan.Maker.{Maker}
 use Rattle.run_plan.specs.declared.plan.Plan.{Plan}
 use Rattle.run_plan.specs.declared.plan.PlanAction.{PlanAction}
+use Rattle.placed_rules.specs.declared.placed.Placed.{Placed}
+use Rattle.placed_rules.specs.declared.placed.Seating.{Seating}
+use Rattle.placed_rules.specs.declared.placed.Seating.TheVariants.{Own, Pools}
+use Rattle.placed_rules.specs.declared.pools.SharedPool.{SharedPool}
 use Rattle.exec_journal.specs.Entry.{Entry}
 use Rattle.exec_journal.specs.declared.call.Answer.{Answer}
 use Rattle.exec_journal.specs.declared.call.NamedFile.{NamedFile}
@@ -51,6 +55,19 @@ pub record PlanFits (p : Plan) : Type 0 where
   pub actions : Each PlanActionFits p.actions
   pub groups : Each GroupFits p.groups
   pub limit : IsCount p.limit
+
+pub record PoolFits (x : SharedPool) : Type 0 where
+  pub groups : Each IsCount x.groups
+  pub berths : IsCount x.berths
+
+abbrev pub SeatingFits : Seating → Type 0
+SeatingFits Own = Unit {0}
+SeatingFits (Pools pools instances) = Each PoolFits pools × IsCount instances
+
+pub record PlacedFits (x : Placed) : Type 0 where
+  pub plan : PlanFits x.plan
+  pub seating : SeatingFits x.seating
+  pub ticks : IfCount x.ticks
 
 pub record FileFits (f : NamedFile) : Type 0 where
   pub content : IsBytes f.content

@@ -3,5 +3,6 @@ pub mod Values
 pub mod Words
 pub mod Writing
 pub mod Reading
+pub mod Placed
 pub mod Fits
 pub mod Lines

@@ -3,10 +3,11 @@
 #![tactic(auto)]
 
 mod calls;
+mod placed;
 mod plans;
 mod replies;
 mod row;
 mod words;
 mod writing;
 
-pub use writing::journal_text;
+pub use writing::{journal_text, placed_text};

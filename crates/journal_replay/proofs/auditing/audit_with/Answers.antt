@@ -8,12 +8,12 @@ returns-clause-answer g c =
     let bytes = c.args.bytes.now in
     let few : length bytes ≤ 268435456 = omega arith in
     let fits : 0 + length bytes < 2 ^ 63 = omega arith in
-    judged_text g.C.Replayed.makes bytes c.verdict.result few (c.verdict.ensures false bytes (c.in_ok-feed.ensures false [] c.of_text-auditor.ensures fits) few)
+    judged_text g.C.Replayed.rules bytes c.verdict.result few (c.verdict.ensures false bytes (c.in_ok-feed.ensures false [] c.of_text-auditor.ensures fits) few)
 
 pub returns-clause-only : goal.returns-clause-only
 returns-clause-only g c =
     let bytes = c.args.bytes.now in
     let few : length bytes ≤ 268435456 = omega arith in
     let fits : 0 + length bytes < 2 ^ 63 = omega arith in
-    judged_only g.C.Replayed.makes g.met.C.Replayed.fronts bytes c.verdict.result
-    (judged_text g.C.Replayed.makes bytes c.verdict.result few (c.verdict.ensures false bytes (c.in_ok-feed.ensures false [] c.of_text-auditor.ensures fits) few))
+    judged_only g.C.Replayed.rules g.met.C.Replayed.fronts bytes c.verdict.result
+    (judged_text g.C.Replayed.rules bytes c.verdict.result few (c.verdict.ensures false bytes (c.in_ok-feed.ensures false [] c.of_text-auditor.ensures fits) few))

@@ -6,4 +6,4 @@ pub returns-else-number-eq1 : goal.returns-else-number-eq1
 returns-else-number-eq1 g c = λ ls each number.
     let other = c.if-number-eq1.false in
     let some : 0 < length ls = omega arith in
-    bad_from_first ls c.args.line.now each some
+    bad_from_first g.C.Replayed.rules.spelled ls c.args.line.now each some

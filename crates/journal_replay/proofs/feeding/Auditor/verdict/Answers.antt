@@ -8,7 +8,7 @@ pub returns-then-is_empty : goal.returns-then-is_empty
 returns-then-is_empty g c = λ skips bytes fed few.
     let a = c.args.self in
     let none : length a.begun.items ≡ 0 = ap length (sym c.as_slice-line.ensures.value) ∙ is_none _ _ c.is_empty.ensures c.if-is_empty.true in
-    let knows = known_all skips g.C.Replayed.makes g.C.Replayed.stands a.stage a.number a.begun.items bytes fed none in
+    let knows = known_all skips g.C.Replayed.rules g.C.Replayed.stands a.stage a.number a.begun.items bytes fed none in
     let lines : length (lines_of bytes) < 2 ^ 63 = fewer_lines bytes few in
     c.verdict_on.ensures skips (lines_of bytes) knows lines
 
@@ -21,7 +21,7 @@ returns g c = λ skips bytes fed few.
     let same = c.as_slice-line.ensures.value in
     let more = is_some _ _ c.is_empty.ensures c.if-is_empty.false in
     let some : 0 < length a.begun.items = subst (λ (l : List ℕ). 0 < length l) same more in
-    let last = subst (λ (l : List ℕ). KnowsStage skips g.C.Replayed.makes g.C.Replayed.stands c.in_ok-stage.stage (fed.lines ++ l ∷ [])) same next in
-    let knows = known_last skips g.C.Replayed.makes g.C.Replayed.stands a.stage c.in_ok-stage.stage a.number a.begun.items bytes fed some last in
+    let last = subst (λ (l : List ℕ). KnowsStage skips g.C.Replayed.rules g.C.Replayed.stands c.in_ok-stage.stage (fed.lines ++ l ∷ [])) same next in
+    let knows = known_last skips g.C.Replayed.rules g.C.Replayed.stands a.stage c.in_ok-stage.stage a.number a.begun.items bytes fed some last in
     let lines : length (lines_of bytes) < 2 ^ 63 = fewer_lines bytes few in
     c.verdict_on-2.ensures skips (lines_of bytes) knows lines
