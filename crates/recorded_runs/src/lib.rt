@@ -4,5 +4,5 @@
 mod recording;
 mod told;
 
-pub use recording::run_recorded;
+pub use recording::{put_journal, run_recorded};
 pub use told::run_told_recorded;

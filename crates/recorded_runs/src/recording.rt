@@ -53,7 +53,7 @@ where
         return ended;
     }
     match &ended.task {
-        Some(task) => match put_text(alloc, &task.plan, &ended.laid.journal, out) {
+        Some(task) => match put_journal(alloc, &task.plan, &ended.laid.journal, out) {
             Some(fault) => end_late(ended, fault),
             None => ended,
         },
@@ -75,8 +75,14 @@ fn end_late<F: Floor>(ended: Ended<F>, fault: RunFault) -> Ended<F>
     ended
 }
 
-// Writes the text of a journal, which is then judged legal.
-fn put_text<O: Sink>(alloc: Global, plan: &Plan, journal: &Journal, out: &mut O) -> Option<RunFault>
+/// Writes the text of a legal journal of this plan to any sink, in one put: a line for the plan, and one for
+/// each entry. A check of the text finds it legal. Returns the fault, if there is one.
+pub fn put_journal<O: Sink>(
+    alloc: Global,
+    plan: &Plan,
+    journal: &Journal,
+    out: &mut O,
+) -> Option<RunFault>
     requires sound { Sound plan.now }
     requires legal { Legal plan.now (reverse journal.now) }
     ensures put { Puts result (text_of plan.now journal.now) (O.told out.old) (O.told out.new) }

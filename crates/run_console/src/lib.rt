@@ -8,4 +8,4 @@ mod rules;
 mod telling;
 
 pub use hints::{Cause, OPTIONS, Outputs, Prints, Program, TOGETHER};
-pub use telling::{end, end_unread, tell, tell_ended, words};
+pub use telling::{end, end_unread, tell, tell_ended, tell_refused, words};

@@ -134,6 +134,19 @@ where
     ExitCode::from(status)
 }
 
+/// Reports that no strategy supports this action, and what can be done about it.
+pub fn tell_refused(rt: &impl Eprint, alloc: Global, program: &Program, action: u32) {
+    let name = program.name;
+    if let Ok(line) = format!(in alloc; "{name}: no strategy for action {action}\n") {
+        let _ = rt.eprint(line.as_str());
+    }
+    let _ = rt.eprint(
+        "  its list has worker or dynamic alone, which want supports-workers and a flag file among its words:
+  give it these, or name sandboxed or remote too, as in --strategy=MNEMONIC=worker,sandboxed
+",
+    );
+}
+
 // Prints further hints: the action that is meant, and the part of it.
 fn tell_cures(
     rt: &(impl Eprint + Env + Files + AllocGlobal),

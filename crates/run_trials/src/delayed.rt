@@ -3,7 +3,7 @@ ghost use Rattle.list_actions.specs.Whole.{IsWhole};
 
 use action_list::{ActionList, plan, read_list};
 use exec_journal::{Call, Reply};
-use local_delay::{DelayCore, LocalDelay};
+use placed_berths::{DelayCore, delay_core};
 use plain_values::NoMemory;
 use std::alloc::Global;
 
@@ -50,7 +50,7 @@ fn tell_list(alloc: Global, list: &ActionList) -> Result<String, NoMemory>
     requires { IsWhole list.now.actions }
 {
     let plan = plan(alloc, list, 1, 1, 1)?;
-    let mut core = LocalDelay::core(alloc, plan, TICKS)?;
+    let mut core = delay_core(alloc, plan, TICKS)?;
     tell_each(alloc, &mut core)
 }
 

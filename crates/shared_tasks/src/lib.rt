@@ -7,5 +7,7 @@ mod pools;
 mod reading;
 mod words;
 
-pub use reading::{SharedTask, read_shared_task};
+pub use plans::bare_groups;
+pub use pools::{SpokenPools, pools_of};
+pub use reading::{MOST_KEYS, SharedTask, read_shared_task};
 pub use words::{SharedOptions, other_words, read_shared_words};

@@ -34,7 +34,7 @@ pub fn shared_task_of(
 {
     let own = &options.options;
     let mut plan = plan(alloc, list, 0, own.remote, own.retries)?;
-    let groups = bare(alloc, plan.groups.as_slice())?;
+    let groups = bare_groups(alloc, plan.groups.as_slice())?;
     let drawn = replace(&mut plan.groups, groups);
     let parts = group_parts(
         alloc,
@@ -62,8 +62,12 @@ pub fn shared_task_of(
     Ok(SharedTask { task, shared })
 }
 
-// Returns the groups without berths.
-fn bare(alloc: Global, groups: &[Group]) -> Result<Items<Group>, NoMemory>
+/// Returns the groups without berths.
+///
+/// # Errors
+///
+/// Returns `NoMemory` if memory runs out.
+pub fn bare_groups(alloc: Global, groups: &[Group]) -> Result<Items<Group>, NoMemory>
     ensures { IfOk result (λ v. v ≡ map without_berths groups.now) }
 {
     let mut bare = Vec::with_capacity(alloc, groups.len())?;

@@ -17,8 +17,8 @@ use run_loading::{RunFault, load_work, read_actions};
 use run_tasks::Task;
 use std::alloc::Global;
 
-// The maximum number of worker keys of a list.
-const MOST_KEYS: u32 = 4096;
+/// The maximum number of worker keys of a list.
+pub const MOST_KEYS: u32 = 4096;
 
 /// The task of a list, and the plan of the core that runs the task.
 #[derive(Drop)]

@@ -3,7 +3,7 @@
 #![tactic(auto)]
 
 use outside_real::{RealFloor, RealSink, open_standard, tell_about};
-use real_shared::run_told_shared;
+use real_placed::run_told_shared;
 use run_console::{Prints, Program, end_unread, tell_ended, words};
 use shared_tasks::other_words;
 use std::process::ExitCode;

@@ -1,15 +1,16 @@
 // The plan of the chosen strategies.
 ghost use Rattle.std.specs.Prelude.{◌≡◌, ◌+◌, ◌<◌, ◌≤◌, ◌^◌, ◌++◌, IfOk, OnOk, count_by, length, true};
+ghost use Rattle.std.specs.List.{list_any};
 ghost use Rattle.list_actions.specs.Whole.{IsWhole};
 ghost use Rattle.run_plan.specs.Groups.{is_remote};
 ghost use Rattle.run_plan.specs.Sound.{Sound};
 ghost use Rattle.run_plan.specs.Limits.{most_actions, most_remote_berths};
 ghost use Rattle.action_list.specs.Plans.{executor_groups};
-ghost use Rattle.spawn_strategies.specs.Choices.{Answers, AreLimits, all_placed, are_different, choice_of, groups_by, is_sandboxed, placed, sandbox_groups, sandboxes, uses_executor};
+ghost use Rattle.spawn_strategies.specs.Choices.{Answers, AreLimits, all_placed, are_different, choice_of, groups_by, is_sandboxed, placed, sandbox_groups, sandboxes, says_sandboxed, uses_executor};
 ghost use Rattle.spawn_strategies.specs.Placing.{keyed, placing};
 
 use crate::copies::{chosen_names, with_names};
-use crate::types::{ChoiceFault, Name, PlanLimits, Strategies};
+use crate::types::{ChoiceFault, Name, PlanLimits, Rule, Strategies};
 use action_list::{ActionList, plan};
 use plain_values::{Items, NoMemory};
 use run_plan::{Group, Kind, Plan, PlanAction};
@@ -132,6 +133,39 @@ fn executor_users(names: &[Name]) -> u32
     ensures { result ≡ count_by uses_executor names.now }
 {
     names.iter().filter(|name| name.uses_executor()).count() as u32
+}
+
+impl Strategies {
+    /// Returns the largest number of sandboxes, which is 0 if no list of names has `Sandboxed`.
+    pub fn sandboxes(&self) -> u32
+        ensures { result ≡ sandboxes self.now }
+    {
+        if self.says_sandboxed() {
+            self.sandboxed
+        } else {
+            0
+        }
+    }
+
+    fn says_sandboxed(&self) -> bool
+        ensures { result ≡ says_sandboxed self.now }
+    {
+        has_sandboxed(self.common.as_slice()) || rules_have_sandboxed(self.rules.as_slice())
+    }
+}
+
+fn rules_have_sandboxed(rules: &[Rule]) -> bool
+    ensures { result ≡ list_any (λ rule. list_any is_sandboxed rule.names) rules.now }
+{
+    rules
+        .iter()
+        .any(|rule| has_sandboxed(rule.names.as_slice()))
+}
+
+fn has_sandboxed(names: &[Name]) -> bool
+    ensures { result ≡ list_any is_sandboxed names.now }
+{
+    names.iter().any(|name| name.is_sandboxed())
 }
 
 impl Name {

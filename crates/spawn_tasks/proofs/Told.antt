@@ -45,7 +45,7 @@ pub record IsLoaded (list : ActionList) (work : Work) : Type 0 where
       ≡ map (λ w. Ok w) work.actions
 
 module _ (keys : ℕ) (loaded : Loaded) where
-  by_bytes : (due : Result ActionList ListFault) (reads : List FloorRead)
+  pub by_bytes : (due : Result ActionList ListFault) (reads : List FloorRead)
       → BytesRead Loads due reads (Ok loaded) → IsLoaded loaded.list loaded.work
   by_bytes (Err f) reads h = absurd (let e = h.1 in cc)
   by_bytes (Ok list) reads h =
@@ -58,7 +58,7 @@ module _ (keys : ℕ) (loaded : Loaded) where
   by_answer path read.Failed reads h = absurd (let e = h.1 in cc)
   by_answer path (read.Found bytes) reads h = by_bytes (list_of keys bytes) reads h
 
-  by_reads : (path : List ℕ) (reads : List FloorRead)
+  pub by_reads : (path : List ℕ) (reads : List FloorRead)
       → ListFirst Loads keys path reads (Ok loaded) → IsLoaded loaded.list loaded.work
   by_reads path [] h = absurd h
   by_reads path (first ∷ rest) h = by_answer path first.answer rest h.1

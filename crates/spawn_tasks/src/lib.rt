@@ -11,6 +11,8 @@ mod tasks;
 mod wording;
 
 pub use faults::NoSpawn;
+pub use parts::parts_by;
 pub use reading::read_spawn_task;
 pub use spawn_strategies::other_words;
-pub use tasks::SpawnTask;
+pub use tasks::{SpawnTask, chosen_names};
+pub use wording::reworded;

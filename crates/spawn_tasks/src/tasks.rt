@@ -73,8 +73,12 @@ fn plan_by(alloc: Global, options: &SpawnOptions, list: &ActionList) -> Result<P
     chosen_plan(alloc, list, &options.strategies, limits)
 }
 
-// Returns the chosen name of each action. If there is a plan, each action has one, and the default is unused.
-fn chosen_names(
+/// Returns the chosen name of each action. If there is a plan, each action has one, and the default is unused.
+///
+/// # Errors
+///
+/// Returns `NoMemory` if memory runs out.
+pub fn chosen_names(
     alloc: Global,
     words: &Strategies,
     actions: &[ListAction],

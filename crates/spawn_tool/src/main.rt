@@ -3,12 +3,11 @@
 #![tactic(auto)]
 
 use outside_real::{RealFloor, RealSink, open_standard, tell_about};
-use real_spawn::run_told_strategies;
-use run_console::{Prints, Program, end_unread, tell_ended, words};
-use spawn_runs::Strategic;
+use placed_runs::Strategic;
+use real_placed::run_told_strategies;
+use run_console::{Prints, Program, end_unread, tell_ended, tell_refused, words};
 use spawn_tasks::other_words;
 use std::alloc::Global;
-use std::io::Eprint;
 use std::process::ExitCode;
 use tick_lane::ClockPacer;
 use tool_words::number_behind;
@@ -68,7 +67,7 @@ fn main(rt: HostRuntime) -> ExitCode {
         pacer: _,
     } = run_told_strategies(&rt, alloc, &words, floor, ClockPacer::new(&rt), &mut out);
     if let Some(action) = refused {
-        tell_refused(&rt, alloc, action);
+        tell_refused(&rt, alloc, &program, action);
     }
     let others = other_words(alloc, &words).unwrap_or(Vec::new(alloc));
     tell_ended(&rt, alloc, &program, &others, ended)
@@ -90,16 +89,4 @@ fn number(words: &[String], front: &str) -> u32 {
         .iter()
         .find_map(|word| number_behind(front, 1, MOST_TOGETHER, word.as_str()))
         .unwrap_or(1)
-}
-
-// Reports that no strategy supports this action, and what can be done about it.
-fn tell_refused(rt: &impl Eprint, alloc: Global, action: u32) {
-    if let Ok(line) = format!(in alloc; "spawn_tool: no strategy for action {action}\n") {
-        let _ = rt.eprint(line.as_str());
-    }
-    let _ = rt.eprint(
-        "  its list has worker or dynamic alone, which want supports-workers and a flag file among its words:
-  give it these, or name sandboxed or remote too, as in --strategy=MNEMONIC=worker,sandboxed
-",
-    );
 }

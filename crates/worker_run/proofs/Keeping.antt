@@ -2,77 +2,84 @@
 use Rattle.std.proofs.Common.{arith, ◌≡◌, ◌≤◌, ◌∙◌, List, Option, Some, None, IfSome, refl, ap, subst, sym}
 use Rattle.build_report.specs.Faults.{fault_status}
 use Rattle.build_report.specs.declared.fault.RunFault.{RunFault}
-use Rattle.build_report.specs.declared.fault.RunFault.TheVariants as fault
-use Rattle.build_report.specs.declared.fault.Stage.TheVariants as stage
 use Rattle.core_contract.specs.Discipline.{Discipline}
-use Rattle.core_contract.specs.Disciplines.{own_discipline}
-use Rattle.exec_journal.specs.Kept.{Kept}
-use Rattle.run_plan.specs.declared.plan.Plan.{Plan}
+use Rattle.core_contract.specs.Disciplines.{LegalBy}
+use Rattle.core_contract.specs.Ruled.{answer_after}
+use Rattle.lane_runs.specs.Runs.{Rooms, Stops}
 use Rattle.exec_journal.specs.Entry.{Entry}
-use Rattle.discipline_laws.proofs.OwnDiscipline.{own_legal}
 use Rattle.outside.specs.Causes.{Counts}
 use Rattle.outside.specs.Told.{FloorTold, SameFloor}
 use Rattle.run_loading.specs.Reads.{IsFloorFailed}
 use Rattle.run_tasks.specs.declared.task.Task.{Task}
-use Rattle.worker_run.proofs.Made.{few_since, made_since, nothing_made, nothing_much}
+use Rattle.worker_run.proofs.Making.{few_since, made_since, nothing_made, nothing_much}
 use Rattle.worker_run.proofs.Reading.{fault_nothing}
-use Rattle.worker_run.specs.Ends.{IsEndOf, TellsTask}
-use Rattle.worker_run.specs.Headline.{AreRulesOf, HasRooms, IsKept, IsLegal, IsOwnLegal, IsStopped, OnRun, TaskKeeps, newest_first, own_kept, own_rules}
+use Rattle.worker_run.specs.Ends.{TellsTask}
+use Rattle.worker_run.specs.Headline.{AreRulesOf, HasRooms, IsKept, IsLegal, IsStopped, OnRun, TaskKeeps, newest_first}
+use Rattle.worker_run.specs.Histories.{history_of}
+use Rattle.worker_run.specs.Lanes.{AreNewBerths}
 use Rattle.worker_run.specs.Seen.{EndedTold, Left, ended_told, nothing_left}
 
 -- ---- by the task that was run
 
--- what is said of the task that was run is said of the run
-module _ (t : Task) (end : EndedTold) (of : IsEndOf t end.fault end.task) (P Q : Task → Left → Type 0)
-    (so : P t end.left → Q t end.left) where
-  pub on_task : OnRun end P → OnRun end Q
-  on_task p = by end.fault end.task of p
-    where
-      there : (o : Option Task) → o ≡ Some t → IfSome o (λ t. P t end.left)
-          → IfSome o (λ t. Q t end.left)
-      there o is p = subst (λ (o : Option Task). IfSome o (λ t. Q t end.left)) (sym is)
-          (so (subst (λ (o : Option Task). IfSome o (λ t. P t end.left)) is p))
+-- what is said of the task that is told and what it is run by
+abbrev Both : (Task → Left → Type 0) → (Task → Left → Type 0) → (Task → Left → Type 0) → Type 0
+Both E P Q = (t : Task) (x : Left) → E t x → P t x → Q t x
 
-      by : (f : Option RunFault) (o : Option Task) → IsEndOf t f o
-          → IfSome o (λ t. P t end.left) → IfSome o (λ t. Q t end.left)
-      by (Some (fault.NoMemory stage.Before)) o of p =
-          subst (λ (o : Option Task). IfSome o (λ t. Q t end.left)) (sym of) tt
-      by None o of p = there o of.1 p
-      by (Some (fault.NoMemory stage.During)) o of p = there o of.1 p
-      by (Some (fault.NoMemory stage.After)) o of p = there o of.1 p
-      by (Some f) o of p = there o of.1 p
+pub on_both : (end : EndedTold) (E P Q : Task → Left → Type 0) → Both E P Q → OnRun end E
+    → OnRun end P → OnRun end Q
+on_both end E P Q so e p = by end.task e p
+  where
+    by : (o : Option Task) → IfSome o (λ t. E t end.left) → IfSome o (λ t. P t end.left)
+        → IfSome o (λ t. Q t end.left)
+    by None e p = tt
+    by (Some t) e p = so t end.left e p
 
--- So a run by one discipline is one by the rules of the task that was run, where they are that
--- discipline, and what its orders keep is what these have.
-module _ (rules : Task → Discipline) (orders : Task → List Entry → Type 0) (t : Task)
-    (before : FloorTold) (end : EndedTold) (of : IsEndOf t end.fault end.task) where
-  pub keeps_for : TaskKeeps (λ u. rules t) (λ u. orders t) before end
-      → TaskKeeps rules orders before end
-  keeps_for k = record {
+-- These rules of a task are those, and what its orders keep by the first they keep by the others.
+pub record IsAs (rules others : Task → Discipline) (orders keeps : Task → List Entry → Type 0)
+    (t : Task) (x : Left) : Type 0 where
+  pub same : rules t ≡ others t
+  pub kept : orders t (newest_first x) → keeps t (newest_first x)
+
+-- So a run by the first is one by the others.
+module _ (rules others : Task → Discipline) (orders keeps : Task → List Entry → Type 0)
+    (before : FloorTold) (end : EndedTold) (alike : OnRun end (IsAs rules others orders keeps)) where
+  by_others : (P : (Task → Discipline) → Task → Left → Type 0)
+      → ((t : Task) (x : Left) → rules t ≡ others t → P rules t x → P others t x)
+      → OnRun end (P rules) → OnRun end (P others)
+  by_others P so p = on_both end (IsAs rules others orders keeps) (P rules) (P others)
+      (λ t x e. so t x e.same) alike p
+
+  pub keeps_as : TaskKeeps rules orders before end → TaskKeeps others keeps before end
+  keeps_as k = record {
     told = k.told;
     sound = k.sound;
     nothing = k.nothing;
     made = k.made;
-    of_task = on_task t end of (AreRulesOf (λ u. rules t)) (AreRulesOf rules)
-        (λ r. record { plan = r.plan; served = r.served }) k.of_task;
-    legal = on_task t end of (IsLegal (λ u. rules t)) (IsLegal rules) (λ r. r) k.legal;
+    of_task = by_others AreRulesOf (λ t x e r. record {
+      plan = ap (λ (q : Discipline). q.plan) (sym e) ∙ r.plan;
+      served = r.served ∙ ap (λ (q : Discipline). q.served) e;
+    }) k.of_task;
+    legal = by_others IsLegal (λ t x e l.
+        subst (λ (q : Discipline). LegalBy q (newest_first x)) e l) k.legal;
     race = k.race;
     paired = k.paired;
-    kept = on_task t end of (IsKept (λ u. orders t)) (IsKept orders) (λ r. r) k.kept;
+    kept = on_both end (IsAs rules others orders keeps) (IsKept orders) (IsKept keeps)
+        (λ t x e l. e.kept l) alike k.kept;
     halts = k.halts;
     flag = k.flag;
-    stopped = on_task t end of (IsStopped (λ u. rules t)) (IsStopped rules) (λ r. r) k.stopped;
+    stopped = by_others IsStopped (λ t x e s.
+        subst (λ (q : Discipline). Stops q.served (history_of x.journal)) e s) k.stopped;
     accounted = k.accounted;
     complete = k.complete;
     pipes = k.pipes;
-    rooms = on_task t end of (HasRooms (λ u. rules t)) (HasRooms rules)
-        (λ r. record {
-          settings = r.settings;
-          of_task = r.of_task;
-          before = r.before;
-          new = r.new;
-          rooms = r.rooms;
-        }) k.rooms;
+    rooms = by_others HasRooms (λ t x e r. record {
+      settings = r.settings;
+      of_task = r.of_task;
+      before = r.before;
+      new = subst (λ (q : Discipline). AreNewBerths q.served r.before) e r.new;
+      rooms = subst (λ (q : Discipline). Rooms (answer_after q) r.settings t.work.actions
+          (history_of x.journal) x.lines 0 t.speeches.items r.before x.berths x.unsaid) e r.rooms;
+    }) k.rooms;
     unsaid = k.unsaid;
     outs = k.outs;
     success = k.success;
@@ -80,24 +87,6 @@ module _ (rules : Task → Discipline) (orders : Task → List Entry → Type 0)
     floor = k.floor;
     files = k.files;
   }
-
--- by the rules of the plan's own berths
-pub own_keeps : (p : Plan) (t : Task) (before : FloorTold) (end : EndedTold) → p ≡ t.plan
-    → IsEndOf t end.fault end.task
-    → TaskKeeps (λ u. own_discipline p) (λ u. Kept p) before end
-    → TaskKeeps own_rules own_kept before end
-own_keeps p t before end is of k = keeps_for own_rules own_kept t before end of
-    (subst (λ (p : Plan). TaskKeeps (λ u. own_discipline p) (λ u. Kept p) before end) is k)
-
--- in their own words
-pub own_legal_on : (before : FloorTold) (end : EndedTold)
-    → TaskKeeps own_rules own_kept before end → OnRun end IsOwnLegal
-own_legal_on before end k = by end.task k.legal
-  where
-    by : (o : Option Task) → IfSome o (λ t. IsLegal own_rules t end.left)
-        → IfSome o (λ t. IsOwnLegal t end.left)
-    by None legal = tt
-    by (Some t) legal = own_legal t.plan (newest_first end.left) legal
 
 -- ---- over the reads before it
 

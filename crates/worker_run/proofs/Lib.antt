@@ -1,8 +1,9 @@
 pub mod Fits
+pub mod Fronts
 pub mod Histories
 pub mod Keeping
-pub mod Progressing
-pub mod Made
+pub mod OwnRun
+pub mod Making
 pub mod Numbered
 pub mod Putting
 pub mod Reading

@@ -1,5 +1,5 @@
 -- From what was read to how the run ends.
-use Rattle.std.proofs.Common.{◌≡◌, arith, ℕ, Bool, true, false, List, [], ◌∷◌, Option, Some, None, Result, Ok, Err, IfSome, refl, subst, sym}
+use Rattle.std.proofs.Common.{◌≡◌, ℕ, Bool, true, false, List, [], ◌∷◌, Option, Some, None, Result, Ok, Err, IfSome, refl, subst, sym}
 use Rattle.action_list.specs.Lists.{list_of}
 use Rattle.list_actions.specs.declared.faults.ListFault.{ListFault}
 use Rattle.list_actions.specs.declared.types.ActionList.{ActionList}
@@ -8,18 +8,17 @@ use Rattle.build_report.specs.declared.fault.RunFault.TheVariants as fault
 use Rattle.build_report.specs.declared.fault.Stage.{Stage}
 use Rattle.build_report.specs.declared.fault.Stage.TheVariants as stage
 use Rattle.generated_list.specs.Generated.{generated_text}
-use Rattle.outside.specs.Causes.{Counts}
 use Rattle.outside.specs.Lists.{Adds}
-use Rattle.outside.specs.Told.{FloorTold, SinkTold}
+use Rattle.outside.specs.Told.{FloorTold}
 use Rattle.outside.specs.declared.answers.Read.{Read}
 use Rattle.outside.specs.declared.answers.Read.TheVariants as read
 use Rattle.outside.specs.declared.floor.FloorRead.{FloorRead}
 use Rattle.run_loading.specs.Course.{AfterList, BytesRead}
-use Rattle.run_loading.specs.Reads.{IsFloorFailed, Reads, UnlessBefore}
+use Rattle.run_loading.specs.Reads.{IsFloorFailed, Reads}
 use Rattle.run_tasks.specs.Course.{Course, ListRead, OptionsRead, TaskRead}
 use Rattle.run_tasks.specs.declared.task.Task.{Task}
 use Rattle.tool_words.specs.declared.options.Options.{Options}
-use Rattle.worker_run.specs.Ends.{HasLed, IsAfterReading, IsEndOf, IsReportEnd, IsRunEnd, LeavesNew, Puts, TellsTask, UnlessEarly}
+use Rattle.worker_run.specs.Ends.{HasLed, IsAfterReading, IsEndOf, IsReportEnd, IsRunEnd, LeavesNew, TellsTask, UnlessEarly}
 use Rattle.worker_run.specs.Headline.{UnlessRun}
 use Rattle.worker_run.specs.Lanes.{IsUnused, WhereLost}
 use Rattle.worker_run.specs.Seen.{EndedTold, Left, nothing_left}
@@ -149,64 +148,6 @@ pub course_silent : (options : Option Options) (reads : List FloorRead)
     → Course options reads (Err fault.SinkFailed) → ⊥
 course_silent None reads h = absurd (let e = h.1 in cc)
 course_silent (Some o) reads h = options_silent o o.list o.generate reads h
-
--- ---- the reads ended the run
-
--- of reads that don't end in the sink's fault
-module _ {X : Type 0} (course : List FloorRead → Result X RunFault → Type 0) (task_of : X → Task)
-    (silent : (reads : List FloorRead) → course reads (Err fault.SinkFailed) → ⊥)
-    (before mid : FloorTold) where
-  abbrev Led : RunFault → Type 0
-  Led f = UnlessBefore (Some f) (Reads before mid (λ reads. course reads (Err f)))
-
-  abbrev To : RunFault → Type 0
-  To f = UnlessEarly (Some f) (Reads before mid (HasLed course task_of (Some f) None))
-
-  led : (f : RunFault) → Reads before mid (λ reads. course reads (Err f))
-      → Reads before mid (HasLed course task_of (Some f) None)
-  led f h = (h.0, h.1, h.2, (Err f, h.3, (refl, refl)))
-
-  pub fault_course : (f : RunFault) → Led f → To f
-  fault_course (fault.NoMemory when) h = subst (λ (s : Stage). To (fault.NoMemory s)) (sym h) tt
-  fault_course fault.SinkFailed h = led fault.SinkFailed h
-  fault_course fault.Words h = led fault.Words h
-  fault_course (fault.List x) h = led (fault.List x) h
-  fault_course (fault.Flags a x) h = led (fault.Flags a x) h
-  fault_course (fault.Absent at) h = led (fault.Absent at) h
-  fault_course (fault.FloorFailed at) h = led (fault.FloorFailed at) h
-
-  pub fault_told : (f : RunFault) → Led f → TellsTask (Some f) None
-  fault_told (fault.NoMemory when) h =
-      subst (λ (s : Stage). TellsTask (Some (fault.NoMemory s)) None) (sym h) refl
-  fault_told fault.SinkFailed h = absurd (silent h.0 h.3)
-  fault_told fault.Words h = refl
-  fault_told (fault.List x) h = refl
-  fault_told (fault.Flags a x) h = refl
-  fault_told (fault.Absent at) h = refl
-  fault_told (fault.FloorFailed at) h = refl
-
-  pub fault_puts : (f : RunFault) (sink : SinkTold) → Led f → Puts (Some f) [] sink sink
-  fault_puts (fault.NoMemory when) sink h =
-      subst (λ (s : Stage). Puts (Some (fault.NoMemory s)) [] sink sink) (sym h) refl
-  fault_puts fault.SinkFailed sink h = absurd (silent h.0 h.3)
-  fault_puts fault.Words sink h = refl
-  fault_puts (fault.List x) sink h = refl
-  fault_puts (fault.Flags a x) sink h = refl
-  fault_puts (fault.Absent at) sink h = refl
-  fault_puts (fault.FloorFailed at) sink h = refl
-
-  not_sink : (f : RunFault) → Led f → Some f ≡ Some fault.SinkFailed → ⊥
-  not_sink fault.SinkFailed h e = silent h.0 h.3
-  not_sink fault.Words h e = absurd (cc)
-  not_sink (fault.NoMemory when) h e = absurd (cc)
-  not_sink (fault.Absent at) h e = absurd (cc)
-  not_sink (fault.FloorFailed at) h e = absurd (cc)
-  not_sink (fault.List x) h e = absurd (cc)
-  not_sink (fault.Flags a x) h e = absurd (cc)
-
-  pub fault_sink : (f : RunFault) (n : ℕ) → Led f
-      → Counts n n (Some f ≡ Some fault.SinkFailed)
-  fault_sink f n h = record { later = omega arith; rose = λ e. absurd (not_sink f h e) }
 
 -- what holds where no lane was started holds where no run is told
 pub unless_lost : (when : Option Stage) (t : Task) (f : Option RunFault) (o : Option Task)

@@ -19,17 +19,17 @@ returns-then-is_some-clause-report g c =
     (λ none. not_none c.ended.inside.fault (sym c.is_some.ensures ∙ c.if-is_some.true)
     (same ∙ none)) b.ensures.report
 
-pub returns-in-Some-put_text-clause-run : goal.returns-in-Some-put_text-clause-run
-returns-in-Some-put_text-clause-run g c =
+pub returns-in-Some-put_journal-clause-run : goal.returns-in-Some-put_journal-clause-run
+returns-in-Some-put_journal-clause-run g c =
     let b = c.run_build-ended in
     let is = b.ensures in
     let e = c.end_late.ensures in
     let none = none_by _ _ c.ended.view_is (sym c.is_some.ensures ∙ c.if-is_some.false) in
     keeps_late (options_of (map string_bytes c.args.words.now)) (g.F.Floor.told c.args.floor)
-    b.result c.end_late.result c.in-Some-put_text.fault c.in-Some-put_text.ensures.kind is.run none e.fault e.status e.task e.left e.floor
+    b.result c.end_late.result c.in-Some-put_journal.fault c.in-Some-put_journal.ensures.kind is.run none e.fault e.status e.task e.left e.floor
 
-pub returns-in-Some-put_text-clause-report : goal.returns-in-Some-put_text-clause-report
-returns-in-Some-put_text-clause-report g c =
+pub returns-in-Some-put_journal-clause-report : goal.returns-in-Some-put_journal-clause-report
+returns-in-Some-put_journal-clause-report g c =
     let b = c.run_build-ended in
     let e = c.end_late.ensures in
     let view = c.ended.view_is in
@@ -39,15 +39,15 @@ returns-in-Some-put_text-clause-report g c =
     let path : c.ended.inside.laid.journal ≡ b.result.left.journal =
     cc (ap (λ (e : EndedTold). e.left.journal) view) in
     let mid = g.O.Sink.told b.new.out in
-    let new = g.O.Sink.told c.put_text.new.out in
-    let f = c.in-Some-put_text.fault in
+    let new = g.O.Sink.told c.put_journal.new.out in
+    let f = c.in-Some-put_journal.fault in
     records_late b.result c.in-Some.task (g.O.Sink.told c.args.out.now) mid new none its
-    b.ensures.report c.end_late.result f e.fault e.task e.left c.in-Some-put_text.ensures.kind
+    b.ensures.report c.end_late.result f e.fault e.task e.left c.in-Some-put_journal.ensures.kind
     (subst (λ (j : List Entry). Puts (Some f) (text_of c.in-Some.task.plan j) mid new) path
-    c.in-Some-put_text.ensures.put)
+    c.in-Some-put_journal.ensures.put)
 
-pub returns-in-None-put_text-clause-report : goal.returns-in-None-put_text-clause-report
-returns-in-None-put_text-clause-report g c =
+pub returns-in-None-put_journal-clause-report : goal.returns-in-None-put_journal-clause-report
+returns-in-None-put_journal-clause-report g c =
     let b = c.run_build-ended in
     let view = c.ended.view_is in
     let none = none_by _ _ c.ended.view_is (sym c.is_some.ensures ∙ c.if-is_some.false) in
@@ -56,29 +56,29 @@ returns-in-None-put_text-clause-report g c =
     let path : c.ended.inside.laid.journal ≡ b.result.left.journal =
     cc (ap (λ (e : EndedTold). e.left.journal) view) in
     let mid = g.O.Sink.told b.new.out in
-    let new = g.O.Sink.told c.put_text.new.out in
+    let new = g.O.Sink.told c.put_journal.new.out in
     records_whole b.result c.in-Some.task (g.O.Sink.told c.args.out.now) mid new none its
     b.ensures.report (subst (λ (j : List Entry). Puts None (text_of c.in-Some.task.plan j) mid new)
-    path c.in-None-put_text.ensures.put)
+    path c.in-None-put_journal.ensures.put)
 
-pub returns-in-Some-put_text-clause-sink : goal.returns-in-Some-put_text-clause-sink
-returns-in-Some-put_text-clause-sink g c =
+pub returns-in-Some-put_journal-clause-sink : goal.returns-in-Some-put_journal-clause-sink
+returns-in-Some-put_journal-clause-sink g c =
     let b = c.run_build-ended in
     counts_late (g.O.Sink.told c.args.out.now).faults (g.O.Sink.told b.new.out).faults
-    (g.O.Sink.told c.put_text.new.out).faults _ _ _ b.ensures.sink c.in-Some-put_text.ensures.sink
+    (g.O.Sink.told c.put_journal.new.out).faults _ _ _ b.ensures.sink c.in-Some-put_journal.ensures.sink
     (λ failed. sym c.end_late.ensures.fault ∙ failed)
 
-pub returns-in-None-put_text-clause-sink : goal.returns-in-None-put_text-clause-sink
-returns-in-None-put_text-clause-sink g c =
+pub returns-in-None-put_journal-clause-sink : goal.returns-in-None-put_journal-clause-sink
+returns-in-None-put_journal-clause-sink g c =
     let b = c.run_build-ended in
     let view = c.ended.view_is in
     let none = none_by _ _ c.ended.view_is (sym c.is_some.ensures ∙ c.if-is_some.false) in
     counts_late (g.O.Sink.told c.args.out.now).faults (g.O.Sink.told b.new.out).faults
-    (g.O.Sink.told c.put_text.new.out).faults _ _ _ b.ensures.sink c.in-None-put_text.ensures.sink
+    (g.O.Sink.told c.put_journal.new.out).faults _ _ _ b.ensures.sink c.in-None-put_journal.ensures.sink
     (λ failed. sym none ∙ failed)
 
-pub returns-in-None-put_text-clause-judged : goal.returns-in-None-put_text-clause-judged
-returns-in-None-put_text-clause-judged g c =
+pub returns-in-None-put_journal-clause-judged : goal.returns-in-None-put_journal-clause-judged
+returns-in-None-put_journal-clause-judged g c =
     let b = c.run_build-ended in
     let view = c.ended.view_is in
     let its : b.result.task ≡ Some c.in-Some.task =
@@ -86,7 +86,7 @@ returns-in-None-put_text-clause-judged g c =
     let path : c.ended.inside.laid.journal ≡ b.result.left.journal =
     cc (ap (λ (e : EndedTold). e.left.journal) view) in
     yes_if b.result c.in-Some.task its (subst (λ (j : List Entry). IsJudgedYes c.in-Some.task.plan j) path
-    c.in-None-put_text.ensures.judged)
+    c.in-None-put_journal.ensures.judged)
 
 pub returns-in-None-clause-report : goal.returns-in-None-clause-report
 returns-in-None-clause-report g c =

@@ -1,6 +1,6 @@
 -- One more berth is made.
 use Rattle.std.proofs.Common.{arith, ◌∙◌}
-use Rattle.worker_run.proofs.Made.{makes_on}
+use Rattle.worker_run.proofs.Making.{makes_on}
 use Rattle.worker_run.proofs.Numbered.{one_more_berth}
 use Rattle.worker_run.proofs.objects.make_berths.Goals as goal
 

@@ -4,7 +4,7 @@ use Rattle.lane_threads.specs.Beside.{count_of}
 use Rattle.lane_runs.specs.Runs.{laid_told}
 use Rattle.core_machine.specs.Objects.{AreFresh}
 use Rattle.worker_run.specs.Lanes.{AreNewBerths}
-use Rattle.worker_run.proofs.Made.{made_left, made_unused, not_lost, ran_whole, where_whole, rooms_length, unused}
+use Rattle.worker_run.proofs.Making.{made_left, made_unused, not_lost, ran_whole, where_whole, rooms_length, unused}
 use Rattle.worker_run.proofs.running.run_plan.Goals as goal
 
 pub run_lanes-requires-clause-places : goal.run_lanes-requires-clause-places

@@ -1,5 +1,0 @@
-mod Begun
-mod Counting
-mod Marking
-mod Noted
-mod Rows

@@ -1,0 +1,16 @@
+mod TicksBegun
+mod PoolsBegun
+mod PoolsAt
+mod CoresBegun
+mod Below
+mod Counting
+mod HomesNoted
+mod Marking
+mod TicksNoted
+mod WordsNoted
+mod Noting
+mod PoolPlaces
+mod Searched
+mod Searches
+mod Rows
+mod DueRows

@@ -1,0 +1,4 @@
+pub mod Fronts
+pub mod RunLaws
+pub mod SharedHeadline
+pub mod StrategicHeadline

@@ -1,0 +1,3 @@
+mod PlacedWhole
+mod SharedWhole
+mod StrategicWhole

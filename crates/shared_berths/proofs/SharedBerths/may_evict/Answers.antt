@@ -1,4 +1,0 @@
-use Rattle.shared_berths.proofs.SharedBerths.may_evict.Goals as goal
-
-pub may_go-requires-clause-reads : goal.may_go-requires-clause-reads
-may_go-requires-clause-reads c = c.requires.shared.berths.each c.args.berth c.requires.berth

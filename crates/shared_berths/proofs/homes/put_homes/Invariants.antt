@@ -1,8 +1,0 @@
-use Rattle.std.proofs.Common.{◌≡◌, drop}
-use Rattle.shared_berths.specs.Homes.{with_homes}
-use Rattle.shared_berths.proofs.homes.put_homes.Given as goal
-
--- with the groups from here on
-abbrev pub invariant-loop-group : goal.invariant-loop-group
-invariant-loop-group l = with_homes l.place (drop l.group-index l.groups) l.homes
-    ≡ with_homes l.place l.groups l.initial.homes

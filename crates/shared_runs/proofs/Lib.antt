@@ -1,4 +1,0 @@
--- What the run of shared berths is proved by.
-pub mod Sharing
-pub mod Silent
-pub mod Led
