@@ -2,6 +2,7 @@
 from __future__ import annotations
 
 import dataclasses
+import itertools
 import os
 import re
 import subprocess
@@ -34,6 +35,11 @@ COMMANDS = {
         "runs a list by strategies",
         "spawn_tool runs LIST as worker_tool does. Each action takes the first strategy that its words name for the action's mnemonic "
         "and that the action supports.", True),
+    "run_tool": Command(
+        "runs a list with every option of the others",
+        "run_tool runs LIST as worker_tool does, with every option of worker_tool, shared_tool and spawn_tool. Every option may stand "
+        "with every other: with --max_workers keys share workers, --strategy and --spawn_strategy choose how an action runs, and with "
+        "--local_delay the worker of a dynamic action waits.", True),
     "journal_run": Command(
         "runs a list, and prints the journal of the run",
         "journal_run runs LIST as worker_tool does, and prints the journal of the run after the report.", True),
@@ -71,13 +77,19 @@ NO_STRATEGY = "8 no strategy supports an action; nothing was started\n"
 
 
 def usage_of(program: str) -> str:
-    """Returns the usage that the program at this path prints, from the word `usage` on, or nothing if it prints none."""
+    """Returns the usage that the program at this path prints, or nothing if it prints none.
+
+    It begins with the word `usage`, or the program's help begins with its name. What follows then up to the first option is left out.
+    """
     try:
         done = subprocess.run([program, "--help"], stdin=subprocess.DEVNULL, capture_output=True, text=True, timeout=60,
                               errors="replace", check=False)
     except (OSError, subprocess.TimeoutExpired):
         return ""
     said = done.stdout + done.stderr
+    if "usage:" not in said and done.stdout.startswith(os.path.basename(program)):
+        first, *rest = done.stdout.splitlines()
+        said = "\n".join([f"usage: {first}", *itertools.dropwhile(lambda it: not it.startswith("  "), rest)])
     at = said.find("usage:")
     return re.sub(r"(?m)^\s*more: .*\n", "", said[at:]).rstrip() + "\n" if at >= 0 else ""
 
@@ -99,7 +111,7 @@ def man_page(name: str, usage: str, version: str) -> str:
     if rest:
         parts.append(f".SH OPTIONS\n.nf\n{_escaped(rest)}\n.fi")
     if command.runs_list:
-        statuses = STATUSES + (NO_STRATEGY if name == "spawn_tool" else "")
+        statuses = STATUSES + (NO_STRATEGY if name in ("spawn_tool", "run_tool") else "")
         rows = [line.split(" ", 1) for line in statuses.splitlines()]
         parts.append(".SH EXIT STATUS\n" + "\n".join(f".TP\n{number}\n{_escaped(means)}" for number, means in rows))
     others = ", ".join(f".BR {it} (1)" for it in COMMANDS if it != name).replace(", ", " ,\n")

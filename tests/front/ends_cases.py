@@ -291,3 +291,6 @@ tee {self.folder}/jobs.$$ | {BIN}/remote_exec "$@"
             said = self.front("run", "-v", f"--strategy=Copy={names}")
             self.assertIn("spawn_tool: 8 actions, since it has strategies", said)
             self.assertIn("8 actions made", said)
+        said = self.front("run", "-v", "--remote=16", "--strategy=Copy=dynamic")
+        self.assertIn("run_tool: 8 actions, since it has strategies and a delay, and 16 executors", said)
+        self.assertIn("8 actions made", said)

@@ -141,6 +141,16 @@ class Rounds(Folder):
         self.assertRegex(said, "a TRIAL, nothing is proved|; proved; sources|unknown, whether it is proved")
         self.assertIn("60 actions made", said)
 
+    def test_many_keys_with_strategies_choose_run_tool(self) -> None:
+        self.worker()
+        actions = self.actions(60)
+        for place, it in enumerate(actions):
+            it["argv"] = ["worker", f"--key={place}", f"@flags/{place}"]
+        self.write_list(actions)
+        said = self.front("-v", "-j", "2", "--strategy=*=worker", "--local-delay=20")
+        self.assertIn("run_tool: 60 actions, since it has strategies and a delay, and there are 60 worker keys", said)
+        self.assertIn("60 actions made", said)
+
     def test_two_at_once(self) -> None:
         self.worker("time.sleep(1)")
         self.write_list(self.actions(2))

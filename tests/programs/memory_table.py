@@ -82,6 +82,8 @@ LACKING = [
     Lacking("worker_tool, in memory", lambda it: it.worker_tool, ["--generate=3"], OF_MEMORY, False),
     Lacking("spawn_tool", lambda it: it.spawn_tool, ["list"], OF_LIST, True),
     Lacking("shared_tool", lambda it: it.shared_tool, ["--max_workers=2", "list"], OF_LIST, True),
+    Lacking("run_tool", lambda it: it.run_tool, ["--max_workers=2", "--local_delay=1", "list"], OF_LIST, True),
+    Lacking("run_tool, in memory", lambda it: it.run_tool, ["--max_workers=2", "--local_delay=1", "--generate=3"], OF_MEMORY, False),
     Lacking("journal_run", lambda it: it.journal_run, ["list"], RECORDED, True, True),
     Lacking("journal_run, in memory", lambda it: it.journal_run, ["--generate=3"], RECORDED_IN_MEMORY, False, True),
 ]

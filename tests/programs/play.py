@@ -40,6 +40,7 @@ class Programs:
     spawn_tool: pathlib.Path
     shared_tool: pathlib.Path
     line_worker: pathlib.Path
+    run_tool: pathlib.Path
 
 
 @dataclasses.dataclass(frozen=True)
@@ -176,20 +177,20 @@ class Heard:
     given: bytes
 
 
-def made_player() -> tempfile.TemporaryDirectory[str]:
-    """Returns a folder that contains the player as a program.
+def made_program(source: pathlib.Path) -> tempfile.TemporaryDirectory[str]:
+    """Returns a folder that contains this script as a program, without its suffix.
 
     The program is written once, before any case begins. The system refuses to start a program that is open for writing,
     and a process that another case is starting may hold it open.
     """
     folder = tempfile.TemporaryDirectory()
-    place = pathlib.Path(folder.name) / "player"
-    place.write_text(f"#!{sys.executable} -IS\n{PLAYER.read_text(encoding='utf-8')}", encoding="utf-8")
+    place = pathlib.Path(folder.name) / source.stem
+    place.write_text(f"#!{sys.executable} -IS\n{source.read_text(encoding='utf-8')}", encoding="utf-8")
     place.chmod(0o755)
     return folder
 
 
-PLAYERS = made_player()
+PLAYERS = made_program(PLAYER)
 
 
 def put_player(folder: pathlib.Path, name: str, plays: Iterable[Steps]) -> None:

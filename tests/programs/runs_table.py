@@ -221,7 +221,7 @@ def places() -> Iterator[Case]:
         play.fill(folder, {".worker_rooms": b"a file"})
         ended = exchange(programs, folder, [action()], ["--retries=1"], t=[serve()])
         compare("a file in place of the rooms", (5, b""), (ended.status, ended.out))
-        compare("its fault", True, play.fault_line(ended.err).startswith("worker_tool: not read: "))
+        compare("its fault", True, play.fault_line(ended.err).startswith(f"{programs.worker_tool.name}: not read: "))
     yield Case("a folder of rooms that can't be made", no_room)
 
 

@@ -16,7 +16,7 @@ OK = wire.framed(wire.response()).hex()
 
 
 def sharer(programs: Programs) -> pathlib.Path:
-    """A program that runs shared_tool in worker_tool's place."""
+    """A program that runs shared_tool, or another program with its options, in worker_tool's place."""
     return stand_in(HERE / "sharer.py", programs.shared_tool)
 
 
@@ -44,7 +44,8 @@ def words(given: list[str], accepted: bool) -> Case:
         if accepted:
             compare(given, (0, report()), (ended.status, ended.out))
         else:
-            compare(given, (2, b"", "shared_tool: words are not accepted"), (ended.status, ended.out, fault_line(ended.err)))
+            line = f"{programs.shared_tool.name}: words are not accepted"
+            compare(given, (2, b"", line), (ended.status, ended.out, fault_line(ended.err)))
     return Case(f"shared words: {given}", play)
 
 
@@ -53,7 +54,8 @@ def faults(programs: Programs, folder: pathlib.Path) -> None:
     fill(folder, {"not": b"{", "gone": json_list(action(inputs=["f", "nowhere"])), "f": b"flag\n"})
     for name, status, line in (("not", 4, "list refused: NotJson"), ("gone", 5, "not there: nowhere"), ("none", 5, "not there: none")):
         ended = run([programs.shared_tool, "--max_workers=1", name], folder)
-        compare(name, (status, b"", f"shared_tool: {line}"), (ended.status, ended.out, fault_line(ended.err)))
+        wanted = f"{programs.shared_tool.name}: {line}"
+        compare(name, (status, b"", wanted), (ended.status, ended.out, fault_line(ended.err)))
     broken = exchange(dataclasses.replace(programs, worker_tool=sharer(programs)), folder, [action()], ["--retries=1"],
                       t=[[["hear", 1], ["end"]]] * 2)
     compare("an action that is broken", (1, report("a broken local=dropped:died:2 remote=unused", broken=1)), (broken.status, broken.out))

@@ -1,5 +1,6 @@
 #!/usr/bin/env python3
-"""Runs shared_tool in worker_tool's place: with room for all workers, and with worker_tool's name before a fault's line."""
+"""Runs the program beside it, which has the options of shared_tool, in worker_tool's place: with room for all workers, and with
+worker_tool's name before a fault's line."""
 import os
 import subprocess
 import sys
@@ -9,9 +10,10 @@ MOST_WORKERS = 24
 
 def main() -> int:
     """Runs the program beside this one with the words, and gives back its status and what it wrote."""
-    program = os.path.join(os.path.dirname(sys.argv[0]), "shared_tool")
-    ended = subprocess.run([program, f"--max_workers={MOST_WORKERS}", *sys.argv[1:]], stderr=subprocess.PIPE, check=False)
-    sys.stderr.buffer.write(ended.stderr.replace(b"shared_tool: ", b"worker_tool: ", 1))
+    folder, own = os.path.split(sys.argv[0])
+    name = next(it for it in os.listdir(folder) if it != own)
+    ended = subprocess.run([f"{folder}/{name}", f"--max_workers={MOST_WORKERS}", *sys.argv[1:]], stderr=subprocess.PIPE, check=False)
+    sys.stderr.buffer.write(ended.stderr.replace(f"{name}: ".encode(), b"worker_tool: ", 1))
     return ended.returncode
 
 

@@ -72,7 +72,7 @@ def accepted(words: str) -> Case:
     """Returns a case with a missing list. The program looks for the list only if it accepts the arguments."""
     def played(programs: Programs, folder: pathlib.Path) -> None:
         ended = run([programs.spawn_tool, *words.split()], folder)
-        compare(words, (5, b"", "spawn_tool: not there: l"), (ended.status, ended.out, fault_line(ended.err)))
+        compare(words, (5, b"", f"{programs.spawn_tool.name}: not there: l"), (ended.status, ended.out, fault_line(ended.err)))
     return Case(f"accepted: {words}", played)
 
 
@@ -80,7 +80,8 @@ def refused(words: str) -> Case:
     def played(programs: Programs, folder: pathlib.Path) -> None:
         play.fill(folder, {"l": play.json_list()})
         ended = run([programs.spawn_tool, *words.split()], folder)
-        compare(words, (2, b"", "spawn_tool: words are not accepted"), (ended.status, ended.out, fault_line(ended.err)))
+        line = f"{programs.spawn_tool.name}: words are not accepted"
+        compare(words, (2, b"", line), (ended.status, ended.out, fault_line(ended.err)))
         compare(words, True, b"--strategy=MNEMONIC=NAME" in ended.err)
     return Case(f"refused: {words}", played)
 
@@ -116,7 +117,8 @@ def choice(words: Sequence[str], own: str, workers: bool, flag: bool) -> Case:
         ended = exchange(as_spawn(programs), folder, [one], ["--sandbox_executor=b", *words], None, **players)
         given = (words, own, workers, flag, name)
         if name is None:
-            compare(given, (8, b"", "spawn_tool: no strategy for action 0"), (ended.status, ended.out, fault_line(ended.err)))
+            line = f"{programs.spawn_tool.name}: no strategy for action 0"
+            compare(given, (8, b"", line), (ended.status, ended.out, fault_line(ended.err)))
             compare(given, [0, 0, 0], [processes(folder, it) for it in "txb"])
             return
         lines = {"worker": [LOCAL], "sandboxed": [LOCAL], "remote": ["ok remote local=unused remote=won"],
@@ -140,7 +142,8 @@ def first_fault(name: str, actions: Sequence[Mapping[str, object]], words: Seque
     """Returns a case with several faults, of which this one is reported."""
     def played(programs: Programs, folder: pathlib.Path) -> None:
         ended = exchange(as_spawn(programs), folder, actions, words)
-        compare((name, words), (status, b"", line), (ended.status, ended.out, fault_line(ended.err)))
+        wanted = f"{programs.spawn_tool.name}: {line}"
+        compare((name, words), (status, b"", wanted), (ended.status, ended.out, fault_line(ended.err)))
     return Case(name, played)
 
 
@@ -153,22 +156,22 @@ def faults() -> Iterator[Case]:
     keys = [action(f"k{n}", outputs=[f"k{n}"], env={"K": str(n)}, strategy="remote") for n in range(49)]
     gone = action("n", outputs=["n"], inputs=["f", "gone"])
     yield first_fault("an input that isn't there goes before no strategy", [unsupported, gone], by_worker, 5,
-                      "spawn_tool: not there: gone")
+                      "not there: gone")
     yield first_fault("a list that is none goes before all", [{**unsupported, "outputs": ["u", "u"]}], by_worker, 4,
-                      "spawn_tool: list refused: TwiceMade action 0")
+                      "list refused: TwiceMade action 0")
     yield first_fault("a flag file of an action that is a worker's by itself goes before no strategy", [unsupported, lacks],
-                      by_worker, 4, "spawn_tool: flag file refused: NoSuchFile g action 1")
+                      by_worker, 4, "flag file refused: NoSuchFile g action 1")
     yield first_fault("and where another strategy is chosen for it", [lacks], ["--strategy=T=remote"], 4,
-                      "spawn_tool: flag file refused: NoSuchFile g action 0")
+                      "flag file refused: NoSuchFile g action 0")
     yield first_fault("no strategy goes before a flag file that the choice alone asks for", [lacks_later, unsupported], by_worker, 8,
-                      "spawn_tool: no strategy for action 1")
-    yield first_fault("such a flag file", [lacks_later], by_worker, 4, "spawn_tool: flag file refused: NoSuchFile g action 0")
+                      "no strategy for action 1")
+    yield first_fault("such a flag file", [lacks_later], by_worker, 4, "flag file refused: NoSuchFile g action 0")
     yield first_fault("the first of two without a strategy", [action("a"), unsupported, {**unsupported, "name": "v", "outputs": ["v"]}],
-                      by_worker, 8, "spawn_tool: no strategy for action 1")
+                      by_worker, 8, "no strategy for action 1")
     yield first_fault("no strategy goes before too many keys", [*keys, unsupported], by_worker, 8,
-                      "spawn_tool: no strategy for action 49")
+                      "no strategy for action 49")
     yield first_fault("too many keys go before such a flag file", [lacks_later, *keys], by_worker, 4,
-                      "spawn_tool: list refused: TooMany")
+                      "list refused: TooMany")
 
     def many(count: int, words: list[str]) -> Case:
         def played(programs: Programs, folder: pathlib.Path) -> None:
@@ -289,7 +292,7 @@ def no_strategy(programs: Programs, folder: pathlib.Path) -> None:
     """Checks the exact message for an action that no strategy supports."""
     lacks = action("u", outputs=["u"], strategy="remote", requirements={})
     ended = exchange(as_spawn(programs), folder, [lacks], ["--strategy=T=worker"])
-    wanted = """spawn_tool: no strategy for action 0
+    wanted = f"""{programs.spawn_tool.name}: no strategy for action 0
   its list has worker or dynamic alone, which want supports-workers and a flag file among its words:
   give it these, or name sandboxed or remote too, as in --strategy=MNEMONIC=worker,sandboxed
 """

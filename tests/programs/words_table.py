@@ -27,6 +27,8 @@ REFUSED = [
 
 EACH_ONCE = "every option but --strategy and --extra_flag stands once at most, and each mnemonic has one --strategy"
 
+TOGETHER = "--remote and --sandboxed are at most 16 together where a strategy names sandboxed"
+
 # Programs with words that are each accepted, but not together, and the rule that they break.
 BROKEN = [
     ("worker_tool", "", "there is one list or one --generate, and none is named"),
@@ -48,6 +50,14 @@ BROKEN = [
     ("spawn_tool", "--strategy=A=worker --strategy=A=remote l", EACH_ONCE),
     ("spawn_tool", "--local_delay=1 --local_delay=2 l", EACH_ONCE),
     ("spawn_tool", "--generate=4", 'this word isn\'t accepted: "--generate=4"'),
+    ("run_tool", "--sandboxed=2 --max_workers=2", "there is one list or one --generate, and none is named"),
+    ("run_tool", "a --generate=1 --local_delay=2", "there is one list or one --generate, and 2 are named"),
+    ("run_tool", "--max_workers=2 --retries=1 --retries=2 l", "--retries stands once at most"),
+    ("run_tool", "--max_workers=2 --max_workers=3 l", f"there is one list or one --generate, {EACH_ONCE}"),
+    ("run_tool", "--strategy=A=worker,sandboxed --remote=9 --sandboxed=8 l", TOGETHER),
+    ("run_tool", "--spawn_strategy=sandboxed --sandboxed=16 l", TOGETHER),
+    ("run_tool", "--strategy=A=worker --strategy=A=remote l", f"there is one list or one --generate, {EACH_ONCE}"),
+    ("run_tool", "l --journal=j", 'this word isn\'t accepted: "--journal=j"'),
 ]
 
 # Longer than the name of a file may be, so that it can't be read, and isn't absent.
@@ -58,7 +68,7 @@ def accepted(words: str, path: str) -> Case:
     """Words that name a list which isn't there: that it is looked for shows that they are accepted."""
     def played(programs: Programs, folder: pathlib.Path) -> None:
         ended = run([programs.worker_tool, *words.split()], folder)
-        compare(words, (5, b"", f"worker_tool: not there: {path}"), (ended.status, ended.out, fault_line(ended.err)))
+        compare(words, (5, b"", f"{programs.worker_tool.name}: not there: {path}"), (ended.status, ended.out, fault_line(ended.err)))
     return Case(f"accepted: {words}", played)
 
 
@@ -66,7 +76,8 @@ def refused(words: list[str]) -> Case:
     """Words that aren't accepted. Behind the fault's line stands the usage, which has each option."""
     def played(programs: Programs, folder: pathlib.Path) -> None:
         ended = run([programs.worker_tool, *words], folder)
-        compare(words, (2, b"", "worker_tool: words are not accepted"), (ended.status, ended.out, fault_line(ended.err)))
+        line = f"{programs.worker_tool.name}: words are not accepted"
+        compare(words, (2, b"", line), (ended.status, ended.out, fault_line(ended.err)))
         options = [b"--instances=", b"--remote=", b"--retries=", b"--executor=", b"--extra_flag=", b"--worker_verbose",
                    b"--generate="]
         compare(words, options, [it for it in options if it in ended.err])
@@ -110,7 +121,8 @@ def fault(name: str, words: list[str], status: int, line: str, files: dict[str, 
         finally:
             if out is not None:
                 os.close(out)
-        compare(words, (status, b"", line), (ended.status, ended.out, fault_line(ended.err)))
+        wanted = f"{programs.worker_tool.name}: {line}"
+        compare(words, (status, b"", wanted), (ended.status, ended.out, fault_line(ended.err)))
     return Case(name, played)
 
 
@@ -162,14 +174,14 @@ def cases() -> Iterator[Case]:
         yield refused(odd)
     for program, words, rule in BROKEN:
         yield broken(program, words, rule)
-    for program in ["worker_tool", "journal_run", "shared_tool", "spawn_tool"]:
+    for program in ["worker_tool", "journal_run", "shared_tool", "spawn_tool", "run_tool"]:
         yield odd_word(program)
     for count in [1, 7, 40, 1000]:
         yield generated(count)
-    yield fault("a list that isn't there", ["gone"], 5, "worker_tool: not there: gone")
-    yield fault("a folder in place of a list", ["d"], 5, "worker_tool: not there: d", {"d/x": b""})
-    yield fault("a list that can't be read", [LONG], 5, f"worker_tool: not read: {LONG}")
-    yield fault("a report that can't be written", ["l"], 6, "worker_tool: report not written", {"l": b'{"actions":[]}'}, True)
+    yield fault("a list that isn't there", ["gone"], 5, "not there: gone")
+    yield fault("a folder in place of a list", ["d"], 5, "not there: d", {"d/x": b""})
+    yield fault("a list that can't be read", [LONG], 5, f"not read: {LONG}")
+    yield fault("a report that can't be written", ["l"], 6, "report not written", {"l": b'{"actions":[]}'}, True)
     yield attempts("one further attempt where no number is said", [], 2, "two attempts")
     yield attempts("no further attempt", ["--retries=0"], 1, "one attempt")
     yield attempts("nine further attempts", ["--retries=9"], 10, "ten attempts")

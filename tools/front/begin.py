@@ -31,7 +31,7 @@ for line in sys.stdin:
 FILES = {"text": "hello, lenthuvi\n", "words": "text\nshout\n", "loud": WORKER}
 LIST = {"actions": [{"name": "shouting", "mnemonic": "Shout", "argv": ["loud", "@words"], "inputs": ["words", "text"],
                      "outputs": ["shout"], "requirements": {"supports-workers": "1", "requires-worker-protocol": "json"}}]}
-PROGRAMS = ("worker_tool", "shared_tool", "spawn_tool", "journal_run", "journal_check", "remote_exec", "job_pool")
+PROGRAMS = ("worker_tool", "shared_tool", "spawn_tool", "run_tool", "journal_run", "journal_check", "remote_exec", "job_pool")
 
 
 def init(words: Words) -> int:

@@ -255,7 +255,7 @@ class Build:
             tools = self.files.digests({path for it in actions for path in (*it.tools, it.argv[0])})
             watching = Watching(self.listing, self.words, tools, executor)
             watching.turns = turns.address if turns is not None else ""
-            if chosen.name == "shared_tool":
+            if chosen.is_shared():
                 watching.most_kept = min(programs.jobs_of(self.words), programs.MOST_SHARED)
             objects = watching.watched(actions)
             more = watching.executor_words(chosen.name, actions)

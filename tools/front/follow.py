@@ -16,7 +16,7 @@ from .turns import Turns
 Event = dict[str, Any]
 STEP = 0.1  # seconds between two looks at the events
 LAST_SECONDS = 3.0  # seconds that a program has for its end after TERM
-PROGRAMS = (b"worker_tool", b"shared_tool", b"spawn_tool", b"journal_run")
+PROGRAMS = (b"worker_tool", b"shared_tool", b"spawn_tool", b"run_tool", b"journal_run")
 
 
 def events_of(lines: list[bytes]) -> Iterable[Any]:

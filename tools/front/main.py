@@ -319,7 +319,7 @@ def version() -> int:
     from program_state import release_version
 
     print(f"lenthuvi {release_version()}, with the programs in {programs.bin_folder()}")
-    for name in ("worker_tool", "shared_tool", "spawn_tool", "journal_run"):
+    for name in ("worker_tool", "shared_tool", "spawn_tool", "run_tool", "journal_run"):
         print(f"  {name}: {programs.identity(name)}")
     return 0
 

@@ -98,8 +98,8 @@ OPTIONS = (
 )
 # Options that can't be had together, with the reason.
 EXCLUDED = (
-    ("--journal", "--strategy", "journal_run has no strategies, and spawn_tool prints no journal"),
-    ("--journal", "--local-delay", "journal_run has no delay, and spawn_tool prints no journal"),
+    ("--journal", "--strategy", "journal_run has no strategies, and spawn_tool and run_tool print no journal"),
+    ("--journal", "--local-delay", "journal_run has no delay, and spawn_tool and run_tool print no journal"),
     ("--json", "-n", "nothing runs, so there are no events"),
     *(("--plain", name, "it needs the watchers that --plain leaves out")
       for name in ("--stop", "--alone", "--limit", "--keep", "--keep-rooms", "--isolate", "--trace", "--page")),

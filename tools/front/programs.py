@@ -15,6 +15,7 @@ MOST_INSTANCES, MOST_SHARED, MOST_SANDBOXED, MOST_EXECUTORS = 48, 24, 8, 16
 AT_ONCE = 8  # requests that a multiplex worker has, or jobs that an executor is given
 LOCAL_EXECUTORS = ("remote_exec", "job_pool")
 STRATEGIES = ("worker", "sandboxed", "remote", "dynamic")
+WITH_STRATEGIES = ("spawn_tool", "run_tool")
 HERE = os.path.dirname(os.path.realpath(__file__))
 
 
@@ -29,6 +30,10 @@ class Chosen(NamedTuple):
     options: list[str]
     why: str
     most_keys: int
+
+    def is_shared(self) -> bool:
+        """Returns True if worker keys share the workers."""
+        return any(it.startswith("--max_workers=") for it in self.options)
 
 
 class Limits(NamedTuple):
@@ -92,7 +97,7 @@ def limits_of(words: Words, mnemonics: set[str]) -> Limits:
 
 
 def strategies_of(words: Words, mnemonics: set[str]) -> list[str]:
-    """Reads --strategy, and returns spawn_tool's words for it."""
+    """Reads --strategy, and returns the words of spawn_tool and run_tool for it."""
     found = {}
     for text in words.all("--strategy"):
         mnemonic, _, names = text.rpartition("=")
@@ -117,8 +122,10 @@ def jobs_of(words: Words) -> int:
 def choose(words: Words, actions: list[Action], mnemonics: set[str]) -> Chosen:
     """Chooses the program that has what the words ask for."""
     jobs = min(jobs_of(words), width_of(actions) if words.number("--keep", 0) else 1000)
-    keys = len({it.key() for it in actions if it.strategy != "remote"})
     strategies = strategies_of(words, mnemonics)
+    keys = len({it.key() for it in actions if it.strategy != "remote" or strategies})
+    many = keys > MOST_KEYS or (words.has("-j") and keys > jobs)
+    shared = [f"--max_workers={min(jobs, MOST_SHARED)}"] if many else []
     options = [f"--retries={words.whole('--retries', 2)}", f"--instances={min(jobs, MOST_INSTANCES)}"]
     options += [f"--extra_flag={it}" for it in words.all("--extra-flag")]
     if words.has("--remote"):
@@ -131,11 +138,17 @@ def choose(words: Words, actions: list[Action], mnemonics: set[str]) -> Chosen:
                                f"{MOST_EXECUTORS} executors; --remote={MOST_EXECUTORS - 1} leaves one for sandboxed actions")
             options.append(f"--sandboxed={sandboxed}")
         delay = [f"--local_delay={words.whole('--local-delay', 0)}"] if words.has("--local-delay") else []
+        if many:
+            why = f"it has strategies and a delay, and there are {keys} worker keys"
+            return Chosen("run_tool", [*options, *strategies, *delay, *shared], why, MOST_ACTIONS)
+        if sandboxed < 1:
+            # spawn_tool keeps one of the 16 executors for sandboxed actions, also if there are none.
+            return Chosen("run_tool", [*options, *strategies, *delay], f"it has strategies and a delay, and {MOST_EXECUTORS} executors", MOST_KEYS)
         return Chosen("spawn_tool", [*options, *strategies, *delay], "it has strategies and a delay", MOST_KEYS)
     if words.has("--journal"):
         return Chosen("journal_run", options, "it prints the journal", MOST_KEYS)
-    if keys > MOST_KEYS or (words.has("-j") and keys > jobs):
-        return Chosen("shared_tool", [*options, f"--max_workers={min(jobs, MOST_SHARED)}"], f"there are {keys} worker keys", MOST_ACTIONS)
+    if many:
+        return Chosen("shared_tool", [*options, *shared], f"there are {keys} worker keys", MOST_ACTIONS)
     return Chosen("worker_tool", options, "no option needs another program", MOST_KEYS)
 
 
@@ -146,11 +159,11 @@ def needs_turns(words: Words, chosen: Chosen, actions: list[Action]) -> bool:
     for it in actions:
         if it.strategy != "remote":
             widest[it.key()] = AT_ONCE if it.has("supports-multiplex-workers") else 1
-    if chosen.name == "shared_tool":
+    if chosen.is_shared():
         workers = min(jobs, MOST_SHARED) * 2 * max(widest.values(), default=0)
     else:
         workers = min(jobs, MOST_INSTANCES) * sum(widest.values())
-    is_remote = chosen.name == "spawn_tool" or any(it.strategy != "worker" for it in actions)
+    is_remote = chosen.name in WITH_STRATEGIES or any(it.strategy != "worker" for it in actions)
     executors = (words.whole("--remote", 1) + MOST_SANDBOXED) * AT_ONCE if is_remote else 0
     return workers + executors > jobs
 

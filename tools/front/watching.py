@@ -125,7 +125,7 @@ def executor_words(executor: str, program: str) -> list[str]:
     """Returns the arguments that specify an executor."""
     if not executor:
         return []
-    return [f"--executor={executor}", *([f"--sandbox_executor={executor}"] if program == "spawn_tool" else [])]
+    return [f"--executor={executor}", *([f"--sandbox_executor={executor}"] if program in programs.WITH_STRATEGIES else [])]
 
 
 def expanded(action: Action) -> list[str]:
