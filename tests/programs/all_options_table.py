@@ -15,6 +15,7 @@ import play
 import runs_table
 import shared_table
 import strategies_table
+import terminal_table
 import words_table
 from play import Case, Programs, Wrong, action, compare, fault_line, fill, report, run
 
@@ -43,7 +44,7 @@ def by_run_tool(case: Case) -> Case:
 
 
 def others() -> Iterator[Case]:
-    for table in (words_table, runs_table, shared_table, strategies_table):
+    for table in (words_table, runs_table, shared_table, strategies_table, terminal_table):
         for case in table.cases():
             if case.name not in TAKEN_HERE and not case.name.startswith(LEFT_OUT):
                 yield by_run_tool(case)

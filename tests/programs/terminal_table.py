@@ -1,4 +1,4 @@
-"""worker_tool's display on a terminal: a line with the run's progress and a row for each action that fails. The line is gone when
+"""The display of worker_tool and run_tool on a terminal: a line with the run's progress and a row for each action that fails. The line is gone when
 the report is written."""
 from __future__ import annotations
 

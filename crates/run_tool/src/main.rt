@@ -6,13 +6,15 @@
 use outside_mem::MemFloor;
 use outside_real::{RealFloor, RealSink, open_standard, tell_about};
 use placed_runs::run_placed;
+use placed_tasks::read_run_words;
 use real_placed::run_told_placed;
 use run_console::{
-    Cause, Outputs, Prints, Program, end, end_unread, tell, tell_ended, tell_refused, words,
+    Cause, Outputs, Prints, Program, Screen, end, end_unread, is_dumb, tell, tell_ended,
+    tell_refused, words,
 };
 use run_progress::Notes;
 use std::alloc::Global;
-use std::io::{Eprint, Print};
+use std::io::{Eprint, IsTerminal, Print};
 use std::process::ExitCode;
 use std::sync::Wait;
 use std::thread::Threads;
@@ -74,21 +76,47 @@ fn main(rt: HostRuntime) -> ExitCode {
     if let Some(actions) = generated(&shown) {
         return run_generated(rt, alloc, &words, actions, &program);
     }
-    let around = Around {
-        floor: RealFloor::new(rt, alloc),
-        pacer: ClockPacer::new(&rt),
-        notes: Notes::nowhere(),
+    let on_terminal = rt.stderr().is_terminal() && !is_dumb(&rt);
+    let mut floor = RealFloor::new(rt, alloc);
+    let screen = if on_terminal && is_accepted(alloc, &words) {
+        Screen::of_list(rt, alloc, &shown, &mut floor)
+    } else {
+        None
     };
-    let mut out = RealSink::new(rt);
-    let Finished {
-        ended,
-        refused,
-        pacer: _,
-    } = run_told_placed(&rt, alloc, &words, around, &mut out);
+    let pacer = ClockPacer::new(&rt);
+    let Finished { ended, refused, .. } = match screen {
+        Some(screen) => {
+            let notes = screen.notes();
+            let around = Around {
+                floor,
+                pacer,
+                notes,
+            };
+            let mut out = screen.before(rt, RealSink::new(rt));
+            let finished = run_placed(&rt, alloc, &words, around, &mut out);
+            drop(out);
+            screen.close(&rt);
+            finished
+        }
+        None => {
+            let notes = Notes::nowhere();
+            let around = Around {
+                floor,
+                pacer,
+                notes,
+            };
+            run_told_placed(&rt, alloc, &words, around, &mut RealSink::new(rt))
+        }
+    };
     if let Some(action) = refused {
         tell_refused(&rt, alloc, &program, action);
     }
     tell_ended(&rt, alloc, &program, &shown, ended)
+}
+
+// Returns true if the run takes these words, so that the list may be read for the line on the terminal.
+fn is_accepted(alloc: Global, words: &[String]) -> bool {
+    matches!(read_run_words(alloc, words), Ok(Some(_)))
 }
 
 // Runs a generated list with this many actions, in memory.

@@ -8,20 +8,15 @@ ghost use Rattle.real_run.specs.Tells.{AllTell};
 ghost use Rattle.tool_words.specs.Options.{options_of};
 ghost use Rattle.worker_run.specs.Headline.{RunKeeps};
 
-mod names;
-mod screen;
-
-use crate::screen::Screen;
 use outside::{Berth, Floor, Sink};
 use outside_mem::MemFloor;
 use outside_real::{RealFloor, RealSink, open_standard};
-use plain_values::NoMemory;
 use real_run::{Telling, run_told, run_told_watched};
 use run_console::{
-    Cause, OPTIONS, Outputs, Prints, Program, TOGETHER, end, end_unread, tell, tell_ended, words,
+    Cause, OPTIONS, Outputs, Prints, Program, Screen, TOGETHER, end, end_unread, is_dumb, tell,
+    tell_ended, words,
 };
 use std::alloc::Global;
-use std::env::{self, Env};
 use std::io::{Eprint, IsTerminal, Print};
 use std::process::ExitCode;
 use std::sync::Wait;
@@ -51,7 +46,7 @@ fn main(rt: HostRuntime) -> ExitCode {
     }
     let mut floor = RealFloor::new(rt, alloc);
     let screen = if on_terminal {
-        screen_of(rt, alloc, names::all(alloc, &words, &mut floor))
+        Screen::of_list(rt, alloc, &words, &mut floor)
     } else {
         None
     };
@@ -75,7 +70,7 @@ fn run_generated<R: Threads + Wait + Clock + Print + Eprint + Copy + Drop + Send
         return end(&rt, alloc, &PROGRAM, &RunFault::NoMemory(Stage::Before));
     };
     let screen = if on_terminal {
-        screen_of(rt, alloc, Ok(Vec::new(alloc)))
+        Screen::open(rt, alloc, Vec::new(alloc))
     } else {
         None
     };
@@ -106,20 +101,6 @@ fn run_generated<R: Threads + Wait + Clock + Print + Eprint + Copy + Drop + Send
         tell(&rt, alloc, &PROGRAM, words, &cause);
     }
     ExitCode::from(status)
-}
-
-// Returns a line with these names for the actions. No line is shown if there is no memory or no thread for it.
-fn screen_of<R: Threads + Wait + Clock + Eprint + Copy + Drop + Send + 'static>(
-    rt: R,
-    alloc: Global,
-    names: Result<Vec<String>, NoMemory>,
-) -> Option<Screen> {
-    Screen::open(rt, alloc, names.ok()?)
-}
-
-// Returns true if the terminal can only print.
-fn is_dumb(rt: &(impl Env + AllocGlobal)) -> bool {
-    matches!(env::var(rt, "TERM"), Ok(kind) if kind.as_str() == "dumb")
 }
 
 // Makes the run, and meanwhile shows its progress. The report goes to standard output.

@@ -5,12 +5,13 @@ use serde_json::Value;
 use std::alloc::Global;
 use tool_words::read_words;
 
-/// Returns the names of all actions, in the list's order, as far as the list can be read and gives them.
+/// Returns the names of all actions of the list that these words name, in its order, as far as the list can be read and
+/// gives them. The words are those of `worker_tool`.
 ///
 /// # Errors
 ///
 /// Returns `NoMemory` if memory runs out.
-pub fn all(
+pub(crate) fn action_names(
     alloc: Global,
     words: &[String],
     floor: &mut impl Floor,

@@ -1,8 +1,10 @@
 // The line on the terminal that shows a run's progress.
-use outside::{Io, Sink};
+use crate::names::action_names;
+use outside::{Floor, Io, Sink};
 use plain_values::NoMemory;
 use run_progress::{Look, Notes, Oldest, Progress, Watcher};
 use std::alloc::{AllocError, Global};
+use std::env::{self, Env};
 use std::io::Eprint;
 use std::sync::{Arc, Mutex, Wait};
 use std::thread;
@@ -66,6 +68,17 @@ impl Screen {
         Some(Screen { line, watcher })
     }
 
+    /// Begins to show a line with the names of the actions of the list that these words name. Returns `None` if there is
+    /// no memory or no thread for it.
+    pub fn of_list<R: Threads + Wait + Clock + Eprint + Copy + Drop + Send + 'static>(
+        rt: R,
+        alloc: Global,
+        words: &[String],
+        floor: &mut impl Floor,
+    ) -> Option<Screen> {
+        Screen::open(rt, alloc, action_names(alloc, words, floor).ok()?)
+    }
+
     /// Returns the notes in which the run should record its progress.
     pub fn notes(&self) -> Notes {
         self.line.notes()
@@ -85,6 +98,11 @@ impl Screen {
         self.line.close(rt);
         self.watcher.join(rt);
     }
+}
+
+/// Returns true if the terminal can only print, so that no line can be shown.
+pub fn is_dumb(rt: &(impl Env + AllocGlobal)) -> bool {
+    matches!(env::var(rt, "TERM"), Ok(kind) if kind.as_str() == "dumb")
 }
 
 impl Line {
