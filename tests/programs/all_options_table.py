@@ -259,8 +259,8 @@ def in_memory() -> Iterator[Case]:
     choices = ["--strategy=Gen=sandboxed", "--strategy=Gen=dynamic", "--strategy=Gen=remote", "--strategy=Gen=worker", "--max_workers=24"]
     for it in (*EACH, *choices):
         yield generated(23, [it])
-    for it in itertools.combinations(("--max_workers=1", "--local_delay=3", "--strategy=Gen=dynamic,worker", "--sandboxed=2"), 2):
-        yield generated(40, it)
+    for pair in itertools.combinations(("--max_workers=1", "--local_delay=3", "--strategy=Gen=dynamic,worker", "--sandboxed=2"), 2):
+        yield generated(40, pair)
     yield generated(200, ["--max_workers=2", "--local_delay=1", "--strategy=Gen=dynamic", "--retries=9", "--remote=3"])
     yield generated(200, ["--max_workers=3", "--local_delay=1", "--strategy=Gen=sandboxed,dynamic", "--sandboxed=5"])
     yield generated(1000, ["--max_workers=2", "--local_delay=0", "--spawn_strategy=dynamic"])
@@ -342,24 +342,34 @@ def bounds() -> Iterator[Sequence[str]]:
         yield [f"{name}={most}", f"{name}={most}", *source]
 
 
+# No strategy, and some of which one, none and another name sandboxed.
+CHOICES: tuple[tuple[str, ...], ...] = (
+    (), ("--strategy=T=worker,sandboxed",), ("--strategy=T=remote",), ("--strategy=T=remote", "--spawn_strategy=sandboxed"))
+
+
 def sums() -> Iterator[Sequence[str]]:
     """Yields arguments with executors and sandboxes that are too many together where a strategy names sandboxed, and others."""
     for remote, sandboxed in ((None, None), (15, 1), (15, 2), (16, 1), (16, 2), (16, 16), (8, 8), (9, 8), (1, 15), (None, 15), (None, 16)):
         both = [*([f"--remote={remote}"] if remote else []), *([f"--sandboxed={sandboxed}"] if sandboxed else [])]
-        for choice in ([], ["--strategy=T=worker,sandboxed"], ["--strategy=T=remote"], ["--strategy=T=remote", "--spawn_strategy=sandboxed"]):
+        for choice in CHOICES:
             yield [*both, *choice, "l"]
+
+
+# Arguments that are too few or too many, or of which two together are refused.
+TOGETHER: tuple[tuple[str, ...], ...] = (
+    (), ("l", "m"), ("l", "--generate=3"), ("l", ""), ("-",), ("--help", "l"), ("--version", "l"), ("--max_workers", "3", "l"),
+    ("--strategy=A=worker", "--strategy=A=worker", "l"), ("--strategy=A=worker", "--strategy=B=worker", "l"),
+    ("--strategy=A=worker,worker", "l"), ("--strategy=A=", "l"), ("--strategy==worker", "l"), ("--strategy=A=B=worker", "l"),
+    ("--spawn_strategy=worker,", "l"), ("--spawn_strategy=worker", "--spawn_strategy=worker", "l"), tuple(EACH), (*EACH, "l"),
+    (*EACH, "--generate=5"))
 
 
 def words_cases() -> Iterator[Case]:
     for given in (*bounds(), *sums()):
         yield words_case(given)
-    for words in ([], ["l", "m"], ["l", "--generate=3"], ["l", ""], ["-"], ["--help", "l"], ["--version", "l"], ["--max_workers", "3", "l"],
-                  ["--strategy=A=worker", "--strategy=A=worker", "l"], ["--strategy=A=worker", "--strategy=B=worker", "l"],
-                  ["--strategy=A=worker,worker", "l"], ["--strategy=A=", "l"], ["--strategy==worker", "l"], ["--strategy=A=B=worker", "l"],
-                  ["--spawn_strategy=worker,", "l"], ["--spawn_strategy=worker", "--spawn_strategy=worker", "l"], list(EACH),
-                  [*EACH, "l"], [*EACH, "--generate=5"]):
+    for words in TOGETHER:
         yield words_case(words)
-    for words in (["l", "--journal=j"], ["--generate=2", "--journal=j"], ["l", "--journal="], ["l", "--journal"]):
+    for words in (("l", "--journal=j"), ("--generate=2", "--journal=j"), ("l", "--journal="), ("l", "--journal")):
         yield Case(f"words: {' '.join(words)}: refused, and named", functools.partial(unknown, words=words))
 
 
@@ -390,6 +400,10 @@ def first(name: str, words: Sequence[str], status: int, line: str, files: Mappin
     return Case(f"first: {name}", played)
 
 
+# Berths of each key's own, and shared ones.
+SEATINGS: tuple[tuple[str, ...], ...] = ((), ("--max_workers=2",))
+
+
 def order() -> Iterator[Case]:
     """Yields lists with a fault of each step, from which one fault after another is taken, with and without shared berths."""
     keys = [action(f"k{n}", outputs=[f"k{n}"], argv=["gone", f"--key={n}", "@f"], strategy="remote") for n in range(49)]
@@ -403,7 +417,7 @@ def order() -> Iterator[Case]:
     def of(*actions: Mapping[str, object]) -> dict[str, bytes]:
         return {"f": b"flag\n", "l": play.json_list(*actions)}
 
-    for more in ([], ["--max_workers=2"]):
+    for more in SEATINGS:
         words, how = [*by_worker, *more, "l"], " ".join(more) or "own berths"
         everything = [lacks, gone, unsupported, *keys, later]
         yield first(f"words, {how}", [*words, "--journal=j"], 2, "words are not accepted", of(*everything))
